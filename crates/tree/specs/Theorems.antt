@@ -1,0 +1,2 @@
+-- What is proved of the definitions. Assumes nothing.
+use Rattle.tree.specs.Trees.{Tree}

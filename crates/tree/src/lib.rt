@@ -1,0 +1,2 @@
+// Trees: their definitions, what is proved of them, and what a store of one does.
+pub mod store;

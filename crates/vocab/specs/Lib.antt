@@ -1,0 +1,5 @@
+pub mod Checks
+pub mod Buffers
+pub mod Layers
+pub mod Names
+pub mod Meaning

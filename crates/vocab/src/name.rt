@@ -1,0 +1,14 @@
+// An object's name: a valid one, or the root's empty one.
+ghost use mathlib.Core.Path.{_≡_};
+ghost use mathlib.Core.Bool.{true};
+ghost use lib.ListN.{take};
+ghost use Rattle.vocab.specs.Names.{name-or-none};
+use crate::bytes::Bytes;
+
+#[derive(Clone, Copy)]
+pub struct Name {
+    text: Bytes<24>,
+    ghost sound: { name-or-none (take (text .len) (text .held)) ≡ true },
+}
+
+pub mod naming;
