@@ -1,0 +1,5 @@
+mod Entering
+mod Counting
+pub mod Chains
+mod Beyond
+mod Walking
