@@ -33,15 +33,19 @@ look-some p n s (o ∷ l) r h = go (look-some p (suc (o .number)) s l (r .1)) (p
         let ne : eqb (o .number) (w .0) ≡ false = ne-eqb (o .number) (w .0) (λ z. let q : None ≡ Some (w .1) = sym (at-low (w .0) (suc (o .number)) l (omega arith) (r .1)) ∙ w .3 in let k : _≡_ {A = ℕ} 0 1 = cc in omega arith) in
         (w .0, w .1, cond-false (placed p s o) _ _ e ∙ w .2, cond-false (is (w .0) o) _ _ ne ∙ w .3, w .4)
 
+-- of two objects in one place, each is in the other's
+pub placed-alike : (p : ℕ) (s : List ℕ) (o q : Object) → placed p s o ≡ true → placed p s q ≡ true → placed (o .parent) (o .name) q ≡ true
+placed-alike p s o q h k =
+    let a = and-parts (eqb (o .parent) p) (same-name (o .name) s) h in
+    let b = and-parts (eqb (q .parent) p) (same-name (q .name) s) k in
+    and-from (eqb (q .parent) (o .parent)) _ (eq-eqb (q .parent) (o .parent) (eqb-true _ p (b .0) ∙ sym (eqb-true _ p (a .0)))) (same-over (o .name) s (q .name) (a .1) (b .1))
+
 pub look-found : (t : Tree) → Lawful t → (p : ℕ) (s : List ℕ) (x : ℕ) (o : Object) → at x (t .objects) ≡ Some o → placed p s o ≡ true → look p s (t .objects) ≡ Some x
 look-found t w p s x o e h =
     let l = t .objects in
     let there : taken p s l ≡ true = ⊎-elim (λ b. b) (λ b. absurd (both-ways (placed p s o) (some-at (placed p s) x o l b e) h)) (cases-bool (taken p s l)) in
     let v = look-some p 2 s l (w .ascending) there in
-    let a = and-parts (eqb (o .parent) p) (same-name (o .name) s) h in
-    let b = and-parts (eqb (v .1 .parent) p) (same-name (v .1 .name) s) (v .4) in
-    let both : placed (o .parent) (o .name) (v .1) ≡ true = and-from (eqb (v .1 .parent) (o .parent)) _ (eq-eqb (v .1 .parent) (o .parent) (eqb-true _ p (b .0) ∙ sym (eqb-true _ p (a .0)))) (same-over (o .name) s (v .1 .name) (a .1) (b .1)) in
-    v .2 ∙ ap Some (sym (w .names x (v .0) o (v .1) e (v .3) both))
+    v .2 ∙ ap Some (sym (w .names x (v .0) o (v .1) e (v .3) (placed-alike p s o (v .1) h (v .4))))
 
 -- ---- child
 module _ (p a : ℕ) where

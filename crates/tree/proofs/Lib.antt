@@ -6,3 +6,7 @@ pub mod Climbing
 pub mod Keeping
 pub mod Props
 pub mod Asking
+pub mod Means
+pub mod Leaving
+pub mod After
+pub mod AnyWay

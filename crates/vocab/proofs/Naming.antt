@@ -1,17 +1,17 @@
 -- The test of a name, and the laws of `same-name`: it is an equivalence. Assumes nothing.
 use mathlib.Core.Path.{_≡_, refl, sym, ap, _∙_}
-use mathlib.Core.Bool.{Bool, true, false, _&&_, _||_}
+use mathlib.Core.Bool.{true, false, _&&_}
 use mathlib.Core.List.{List, [], _∷_}
-use mathlib.Core.Logic.{_⊎_, inl, inr}
-use Prim.Native.Nat.{ℕ, _+_, _<_, _≤_}
+use Prim.Native.Nat.{ℕ, _+_, _≤_, _<_}
 use native.Mathlib.Omega.{arith}
 use lib.Dec.{eqb, leb}
 use lib.ListN.{length, getD, drop}
-use Rattle.std.proofs.shelf.Lists.{at-drop-more}
-use Rattle.std.proofs.shelf.Tests.{le-leb, lt-leb, eqb-true, eq-eqb, and-parts, and-from, and-left, and-right, or-left, or-right, both-ways}
-use Rattle.std.proofs.shelf.Ways.{tells}
 use Rattle.std.specs.shelf.Text.{sameBytes}
-use Rattle.vocab.specs.Names.{every, name-byte, valid-name, name-or-none, same-name}
+use Rattle.std.proofs.shelf.Equals.{sameBytes-decides}
+use Rattle.std.proofs.shelf.Lists.{at-drop-more}
+use Rattle.std.proofs.shelf.Tests.{both-ways, or-right, and-parts, and-from, and-left, and-right, eqb-true, eq-eqb, lt-leb, le-leb}
+use Rattle.std.proofs.shelf.Ways.{tells}
+use Rattle.vocab.specs.Names.{every, name-byte, name-or-none, same-name, valid-name}
 
 -- ---- valid names
 module _ (n : List ℕ) where
@@ -70,3 +70,8 @@ same-over (x ∷ a) (y ∷ b) (z ∷ c) h k =
     let h′ = and-parts (eqb x y) (sameBytes a b) h in
     let k′ = and-parts (eqb z y) (sameBytes c b) k in
     and-from (eqb z x) (sameBytes c a) (eq-eqb z x (eqb-true z y (k′ .0) ∙ sym (eqb-true x y (h′ .0)))) (same-over a b c (h′ .1) (k′ .1))
+
+-- a name that is the same as a valid one is valid
+pub same-valid : (a b : List ℕ) → same-name a b ≡ true → valid-name a ≡ true → valid-name b ≡ true
+unfolding same-name
+same-valid a b h k = ap valid-name (sym (sameBytes-decides a b .0 h)) ∙ k
