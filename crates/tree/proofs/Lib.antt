@@ -10,3 +10,5 @@ pub mod Means
 pub mod Leaving
 pub mod After
 pub mod AnyWay
+pub mod Inserting
+pub mod Steps

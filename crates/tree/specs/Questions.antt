@@ -7,11 +7,12 @@
 --     climbs k x p l     whether x is p, or is come to from p by at most k steps from an object to its parent
 --     look p n l         the number bound to the name n in p, or none
 --     child p a l        the smallest number above a among the objects of p, or none
+--     smaller m n        the smaller of two numbers, where the first may be missing
 --     shown x l          all but the contents of the object of number x, the root's too, or none
 --     read t x buffer    the buffer after the contents of the file x were copied into its front, and their length
 use mathlib.Core.Bool.{Bool, true, false, _&&_, _||_, cond}
 use mathlib.Core.List.{List, [], _∷_, _++_}
-use Prim.Native.Nat.{ℕ, zero, suc}
+use Prim.Native.Nat.{ℕ, zero, suc, min}
 use lib.Dec.{eqb, leb, ltb}
 use lib.ListN.{length, drop}
 use Rattle.std.specs.declared.option.Option.{Option}
@@ -83,6 +84,10 @@ look p n (o ∷ l) = cond (placed p n o) (Some (o .number)) (look p n l)
 abbrev pub child : ℕ → ℕ → List Object → Option ℕ
 child p a [] = None
 child p a (o ∷ l) = cond (child-of p o && ltb a (o .number)) (Some (o .number)) (child p a l)
+
+abbrev pub smaller : Option ℕ → ℕ → Option ℕ
+smaller None n = Some n
+smaller (Some m) n = Some (min m n)
 
 -- ---- what is shown of an object
 

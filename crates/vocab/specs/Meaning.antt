@@ -2,7 +2,7 @@
 --     bytesOf b      the bytes that b holds
 --     nameOf n       the bytes of a name
 --     contentsOf c   the bytes of a file's contents
---     numbered n     a number or none, as an object's number or none
+--     numbered n     a number or none, as an object's number or none; values gives it back
 use mathlib.Core.List.{List}
 use Prim.Native.Nat.{ℕ}
 use lib.ListN.{take}
@@ -24,3 +24,7 @@ contentsOf c = bytesOf c
 abbrev pub numbered : Option ℕ → Option Number
 numbered None = None
 numbered (Some x) = Some (record { 0 = x })
+
+abbrev pub values : Option Number → Option ℕ
+values None = None
+values (Some n) = Some (n .0)
