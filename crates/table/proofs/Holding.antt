@@ -1,21 +1,26 @@
 -- How the objects of a table follow its rows. Assumes nothing.
 use mathlib.Core.Path.{_≡_, refl, sym, ap, subst, _∙_}
-use mathlib.Core.Bool.{Bool, true, false, not, _||_}
+use mathlib.Core.Bool.{Bool, true, false, not, _&&_, _||_, cond}
 use mathlib.Core.List.{List, [], _∷_, _++_}
-use Prim.Native.Nat.{ℕ, zero, suc, min, _≤_, _<_}
+use mathlib.Core.Logic.{⊎-elim}
+use Prim.Native.Nat.{ℕ, zero, suc, min, _+_, _^_, _≤_, _<_}
 use native.Mathlib.Omega.{arith}
-use lib.ListN.{length, getD, set}
+use lib.Dec.{ltb}
+use lib.ListN.{length, getD, set, take}
 use Rattle.std.specs.Options.{mapped, isSome}
 use Rattle.std.specs.declared.option.Option.{Option}
 use Rattle.std.specs.declared.option.Option.the-variants.{Some, None}
-use Rattle.std.proofs.shelf.Tests.{both-ways, or-from, or-left, or-right, eqb-true, eqb-false, ne-eqb, cond-true, cond-false}
+use Rattle.std.proofs.shelf.Lists.{take-more}
+use Rattle.std.proofs.shelf.Tests.{both-ways, or-from, or-left, or-right, eqb-true, eqb-false, ne-eqb, cases-eq, cond-true, cond-false}
+use Rattle.tree.specs.Changes.{cleared}
 use Rattle.tree.specs.Law.{Lawful, empty}
-use Rattle.tree.specs.Questions.{dir-at, directory, is-dir, is-some}
+use Rattle.tree.specs.Questions.{child, child-of, dir-at, directory, is-dir, is-some, smaller}
 use Rattle.tree.specs.Trees.{Ascends, Object, at, change, change-one, insert, is, some-of, without}
 use Rattle.tree.proofs.Ascending.{ascends-uninsert, at-insert-other, at-insert-own, change-none, without-none}
-use Rattle.tree.proofs.Inserting.{change-insert, insert-insert, length-insert, some-insert}
+use Rattle.tree.proofs.Inserting.{change-insert, child-insert, insert-insert, length-insert, some-insert}
 use Rattle.tree.proofs.Keeping.{bare-lawful}
 use Rattle.tree.proofs.Objects.{Split, split-insert, split-keep, without-insert, without-own-insert}
+use Rattle.vocab.specs.Meaning.{numbered, values}
 use Rattle.table.specs.declared.row.Entry.{Entry}
 use Rattle.table.specs.declared.row.Row.{Row}
 use Rattle.table.specs.declared.row.Row.the-variants.{Free, Used}
@@ -47,6 +52,15 @@ module _ (x : ℕ) where
   at-nowhere [] h = refl
   at-nowhere (Free ∷ rows) h = at-nowhere rows (h .1)
   at-nowhere (Used e ∷ rows) h = at-insert-other (objectOf e) (objectsIn rows) x (eqb-false (e .number .0) x (h .0)) ∙ at-nowhere rows (h .1)
+
+  pub nowhere-at : (rows : List Row) → at x (objectsIn rows) ≡ None → Nowhere (on (is x)) rows
+  nowhere-at [] h = tt
+  nowhere-at (Free ∷ rows) h = (refl, nowhere-at rows h)
+  nowhere-at (Used e ∷ rows) h =
+      ⊎-elim
+      (λ q. let z : Some (objectOf e) ≡ None = sym (at-insert-own (objectOf e) (objectsIn rows)) ∙ ap (λ y. at y (insert (objectOf e) (objectsIn rows))) q ∙ h in let k : _≡_ {A = ℕ} 0 1 = cc in absurd (omega arith))
+      (λ ne. (ne-eqb (e .number .0) x ne, nowhere-at rows (sym (at-insert-other (objectOf e) (objectsIn rows) x ne) ∙ h)))
+      (cases-eq (e .number .0) x)
 
   at-first : (rows : List Row) (i : ℕ) (e : Entry) → FirstAt (on (is x)) rows i → getD rows i Free ≡ Used e → at x (objectsIn rows) ≡ Some (objectOf e)
   at-first [] i e h k = absurd h
@@ -148,3 +162,44 @@ rows-empty rows n l e = λ i. record { capacity = min (l i) 4096; next = 2; obje
 
 pub rows-empty-lawful : (rows : List Row) → objectsIn rows ≡ [] → Lawful (treeIn rows 2)
 rows-empty-lawful rows e = subst Lawful (sym (rows-empty rows (length rows) refl e)) (bare-lawful (min (length rows) 4096) 2 (omega arith) (omega arith))
+
+pub rows-cleared : (old rows : List Row) (n : ℕ) → length rows ≡ length old → objectsIn rows ≡ [] → treeIn rows n ≡ cleared (treeIn old n)
+rows-cleared old rows n l e = λ i. record { capacity = min (l i) 4096; next = n; objects = e i }
+
+pub rows-cleared-lawful : (old rows : List Row) (n : ℕ) → objectsIn rows ≡ [] → Lawful (treeIn old n) → Lawful (treeIn rows n)
+rows-cleared-lawful old rows n e w = subst Lawful (sym (rows-cleared rows rows n refl e)) (bare-lawful (min (length rows) 4096) n (w .next-low) (w .next-high))
+
+pub rows-next-lawful : (rows : List Row) (m n : ℕ) → Lawful (treeIn rows m) → m ≤ n → n ≤ 2 ^ 31 → Lawful (treeIn rows n)
+rows-next-lawful rows m n w low high = record { next-low = omega (arith, w .next-low); next-high = high; ascending = w .ascending; each = w .each; names = w .names; room = w .room }
+
+-- ---- one row more
+smaller-twice : (c : Option ℕ) (m n : ℕ) → smaller (smaller c m) n ≡ smaller (smaller c n) m
+smaller-twice None m n = let k : min m n ≡ min n m = omega arith in ap Some k
+smaller-twice (Some x) m n = let k : min (min x m) n ≡ min (min x n) m = omega arith in ap Some k
+
+module _ (p a : ℕ) where
+  abbrev picks : Object → Bool
+  picks o = child-of p o && ltb a (o .number)
+
+  pub child-push : (rows : List Row) (r : Row) → child p a (objectsIn (rows ++ r ∷ [])) ≡ elim r [ Free ↦ child p a (objectsIn rows) | Used e ↦ cond (picks (objectOf e)) (smaller (child p a (objectsIn rows)) (e .number .0)) (child p a (objectsIn rows)) ]
+  child-push rows Free = ap (child p a) (rows-freed rows)
+  child-push [] (Used e) = refl
+  child-push (Free ∷ rows) (Used e) = child-push rows (Used e)
+  child-push (Used d ∷ rows) (Used e) =
+      child-insert p a (objectOf d) (objectsIn (rows ++ Used e ∷ [])) (split-rows (rows ++ Used e ∷ []))
+      ∙ ap (λ z. cond (picks (objectOf d)) (smaller z (d .number .0)) z) (child-push rows (Used e))
+      ∙ swap (picks (objectOf d)) (picks (objectOf e)) (child p a (objectsIn rows))
+      ∙ sym (ap (λ z. cond (picks (objectOf e)) (smaller z (e .number .0)) z) (child-insert p a (objectOf d) (objectsIn rows) (split-rows rows)))
+    where
+      swap : (b c : Bool) (u : Option ℕ) → cond b (smaller (cond c (smaller u (e .number .0)) u) (d .number .0)) (cond c (smaller u (e .number .0)) u) ≡ cond c (smaller (cond b (smaller u (d .number .0)) u) (e .number .0)) (cond b (smaller u (d .number .0)) u)
+      swap true true u = smaller-twice u (e .number .0) (d .number .0)
+      swap true false u = refl
+      swap false true u = refl
+      swap false false u = refl
+
+  pub child-more : (rows : List Row) (i : ℕ) (r d : Row) → i < length rows → getD rows i d ≡ r → child p a (objectsIn (take (i + 1) rows)) ≡ elim r [ Free ↦ child p a (objectsIn (take i rows)) | Used e ↦ cond (picks (objectOf e)) (smaller (child p a (objectsIn (take i rows))) (e .number .0)) (child p a (objectsIn (take i rows))) ]
+  child-more rows i r d h k = ap (λ z. child p a (objectsIn z)) (take-more rows i d h ∙ ap (λ z. take i rows ++ z ∷ []) k) ∙ child-push (take i rows) r
+
+pub values-numbered : (u : Option ℕ) → values (numbered u) ≡ u
+values-numbered None = refl
+values-numbered (Some x) = refl

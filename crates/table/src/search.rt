@@ -1,8 +1,8 @@
 // Searches through rows.
 ghost use mathlib.Core.Path.{_≡_};
-ghost use mathlib.Core.Bool.{Bool};
+ghost use mathlib.Core.Bool.{Bool, _&&_};
 ghost use Prim.Native.Nat.{_<_};
-ghost use lib.Dec.{eqb};
+ghost use lib.Dec.{ltb};
 ghost use lib.ListN.{length};
 ghost use denote.Ref.{now};
 ghost use Rattle.std.specs.Options.{Cases as BySome};
@@ -13,7 +13,6 @@ ghost use Rattle.tree.specs.Questions.{smaller};
 ghost use Rattle.table.specs.Rows.{objectOf, objectsIn, free as free-row, FirstAt, Nowhere, Searched};
 use crate::row::Entry;
 use crate::row::Row;
-use vocab::name::Name;
 use vocab::number::Number;
 
 // What a search looks for.
@@ -86,11 +85,18 @@ pub fn first_free(rows: &[Row]) -> Option<usize>
     ensures { λ r. ⌜ BySome r (Nowhere free-row (now (rows .entry))) (λ i. FirstAt free-row (now (rows .entry)) i × (i < length (now (rows .entry)))) ⌝ }
 {
     for (i, row) in rows.iter().enumerate() {
-        if let Row::Free = row {
-            return Some(i);
+        match row {
+            Row::Free => return Some(i),
+            Row::Used(_) => {}
         }
     }
     None
+}
+
+fn follows(entry: &Entry, parent: Number, above: Number) -> bool
+    ensures { λ r. ⌜ r ≡ (child-of (parent .0) (objectOf (now (entry .entry))) && ltb (above .0) (objectOf (now (entry .entry)) .number)) ⌝ }
+{
+    entry.parent.0 == parent.0 && above.0 < entry.number.0
 }
 
 fn lower(best: Option<Number>, number: Number) -> Option<Number>
@@ -108,10 +114,13 @@ pub fn least(rows: &[Row], parent: Number, above: Number) -> Option<Number>
 {
     let mut best = None;
     for row in rows {
-        if let Row::Used(entry) = row {
-            if entry.parent.0 == parent.0 && entry.number.0 > above.0 {
-                best = lower(best, entry.number);
+        match row {
+            Row::Used(entry) => {
+                if follows(entry, parent, above) {
+                    best = lower(best, entry.number);
+                }
             }
+            Row::Free => {}
         }
     }
     best

@@ -5,9 +5,10 @@ use mathlib.Core.List.{List, [], _∷_, _++_, map}
 use mathlib.Core.Logic.{inl, inr}
 use Prim.Native.Nat.{ℕ, suc, _≤_, _<_}
 use native.Mathlib.Omega.{arith}
+use lib.ListN.{length}
 use Rattle.std.specs.declared.option.Option.{Option}
 use Rattle.std.specs.declared.option.Option.the-variants.{Some, None}
-use Rattle.std.proofs.shelf.Tests.{eq-eqb, ne-eqb, cases-lt, cases-eq, lt-ltb, le-ltb, cases-bool, cond-false, cond-both, not-from-true}
+use Rattle.std.proofs.shelf.Tests.{eqb-true, eq-eqb, ne-eqb, cases-lt, cases-eq, lt-ltb, le-ltb, cases-bool, cond-false, cond-both, not-from-true}
 use Rattle.std.proofs.shelf.Ways.{tells}
 use Rattle.tree.specs.Trees.{Ascends, Object, at, change, higher, insert, is, keep, lower, without}
 use Rattle.tree.proofs.Objects.{Split}
@@ -135,3 +136,12 @@ ascends-uninsert n o l s r =
     let w = ascends-cut n o (keep (lower (o .number)) l) (keep (higher (o .number)) l) r in
     let free : at (o .number) l ≡ None = sym (at-keep-in (o .number) (higher (o .number)) l (λ p e. grind (arith, tells))) ∙ at-low (o .number) (suc (o .number)) (keep (higher (o .number)) l) (omega arith) (w .1) in
     (subst (Ascends n) (s (o .number)) (w .0), free)
+
+-- one object less
+pub length-less : (x n : ℕ) (o : Object) (l : List Object) → Ascends n l → at x l ≡ Some o → suc (length (without x l)) ≡ length l
+length-less x n o [] r e = let z : _≡_ {A = ℕ} 0 1 = cc in absurd (omega arith)
+length-less x n o (p ∷ l) r e = go (length-less x (suc (p .number)) o l (r .1)) (is x p) refl
+  where
+    go : (at x l ≡ Some o → suc (length (without x l)) ≡ length l) → (b : Bool) → is x p ≡ b → suc (length (without x (p ∷ l))) ≡ length (p ∷ l)
+    go ih true f = rw f (ap (λ z. suc (length z)) (without-none x l (at-low x (suc (p .number)) l (omega (arith, eqb-true (p .number) x f)) (r .1))))
+    go ih false f = let h = ih (rw f at e) in rw f (ap suc h)

@@ -1,6 +1,6 @@
 -- An object after a change. Assumes nothing.
 use mathlib.Core.Path.{_≡_, refl, sym, _∙_}
-use mathlib.Core.Bool.{Bool, true, false, cond}
+use mathlib.Core.Bool.{Bool, true, false, not, cond}
 use mathlib.Core.List.{List, [], _∷_}
 use Prim.Native.Nat.{ℕ}
 use native.Mathlib.Omega.{arith}
@@ -9,7 +9,7 @@ use Rattle.std.specs.Options.{mapped}
 use Rattle.std.specs.declared.option.Option.{Option}
 use Rattle.std.specs.declared.option.Option.the-variants.{Some, None}
 use Rattle.std.proofs.shelf.Tests.{both-ways, or-parts, eqb-true}
-use Rattle.tree.specs.Questions.{is-dir, is-file, is-some}
+use Rattle.tree.specs.Questions.{directory, is-dir, is-file, is-some, regular}
 use Rattle.tree.specs.Trees.{Body, Object, at, change, change-one, dir, file, is, some-of}
 use Rattle.tree.proofs.Objects.{change-number}
 
@@ -95,3 +95,11 @@ some-at q y o (p ∷ l) h e = go (some-at q y o l (or-parts (q p) (some-of q l) 
     go : (at y l ≡ Some o → q o ≡ false) → (b : Bool) → is y p ≡ b → q o ≡ false
     go ih true f = let k : p ≡ o = cc in rw k at (or-parts (q p) (some-of q l) h .0)
     go ih false f = ih (rw f at e)
+
+-- one kind is not the other
+pub kinds : (o : Object) → regular o ≡ not (directory o)
+kinds o = go (o .body)
+  where
+    go : (b : Body) → _≡_ {A = Bool} (elim b [ dir ↦ false | file c ↦ true ]) (not (elim b [ dir ↦ true | file c ↦ false ]))
+    go dir = refl
+    go (file c) = refl

@@ -12,3 +12,4 @@ pub mod After
 pub mod AnyWay
 pub mod Inserting
 pub mod Steps
+pub mod Answering

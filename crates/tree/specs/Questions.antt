@@ -11,10 +11,9 @@
 --     shown x l          all but the contents of the object of number x, the root's too, or none
 --     read t x buffer    the buffer after the contents of the file x were copied into its front, and their length
 use mathlib.Core.Bool.{Bool, true, false, _&&_, _||_, cond}
-use mathlib.Core.List.{List, [], _∷_, _++_}
+use mathlib.Core.List.{List, [], _∷_}
 use Prim.Native.Nat.{ℕ, zero, suc, min}
-use lib.Dec.{eqb, leb, ltb}
-use lib.ListN.{length, drop}
+use lib.Dec.{eqb, ltb}
 use Rattle.std.specs.declared.option.Option.{Option}
 use Rattle.std.specs.declared.option.Option.the-variants.{Some, None}
 use Rattle.std.specs.declared.result.Result.{Result}
@@ -22,7 +21,8 @@ use Rattle.std.specs.Options.{mapped}
 use Rattle.vocab.specs.declared.kind.Kind.{Kind}
 use Rattle.vocab.specs.declared.kind.Kind.the-variants.{Directory, File}
 use Rattle.vocab.specs.declared.refusal.Refusal.{Refusal}
-use Rattle.vocab.specs.declared.refusal.Refusal.the-variants.{NoSuchObject, BufferShort}
+use Rattle.vocab.specs.declared.refusal.Refusal.the-variants.{NoSuchObject}
+use Rattle.vocab.specs.Buffers.{fits, front}
 use Rattle.vocab.specs.Checks.{check, judge}
 use Rattle.vocab.specs.Names.{same-name}
 use Rattle.tree.specs.Trees.{Body, dir, file, Object, Tree, at, some-of}
@@ -110,4 +110,4 @@ shown x l = cond (eqb x 1) (Some root) (mapped bare (at x l))
 abbrev pub read : Tree → ℕ → List ℕ → List ℕ × Result ℕ Refusal
 read t x buffer =
     let c = held (at x (t .objects)) in
-    judge (check (is-file (at x (t .objects))) NoSuchObject ∷ check (leb (length c) (length buffer)) BufferShort ∷ []) buffer (c ++ drop (length c) buffer, length c)
+    judge (check (is-file (at x (t .objects))) NoSuchObject ∷ fits c buffer ∷ []) buffer (front c buffer)

@@ -1,4 +1,4 @@
-// Who made the last change of an object, and that client's count of changes then.
+// Who set an object's contents last, or made it, and the author's count at that time.
 #[derive(Clone, Copy, PartialEq, Eq, Debug)]
 pub struct Stamp {
     pub author: u16,
@@ -6,6 +6,6 @@ pub struct Stamp {
 }
 
 impl Stamp {
-    // The root's stamp; no change bears it.
+    // The root's stamp.
     pub const NONE: Stamp = Stamp { author: 0, serial: 0 };
 }

@@ -4,10 +4,10 @@ ghost use mathlib.Core.Bool.{true, false};
 ghost use Prim.Native.Nat.{min, _<_};
 ghost use lib.ListN.{length};
 ghost use Rattle.std.specs.Of.Vec.{vec-items};
-ghost use Rattle.std.specs.Options.{Cases as BySome};
+ghost use Rattle.std.specs.Options.{Cases as BySome, isSome};
 ghost use Rattle.vocab.specs.Meaning.{contentsOf};
 ghost use Rattle.tree.specs.Trees.{is as has-number, at};
-ghost use Rattle.tree.specs.Questions.{directory, contents, kind-of, new-body, bare, is-some, is-file, dir-at, taken, has-child, climbs};
+ghost use Rattle.tree.specs.Questions.{directory, contents, placed, kind-of, new-body, bare, is-some, is-file, dir-at, taken, has-child, climbs};
 ghost use Rattle.tree.specs.Meaning.{statusOf};
 ghost use Rattle.table.specs.Rows.{bodyOf, objectOf, objectsIn, treeIn, Found, Searched};
 use crate::row::Body;
@@ -99,9 +99,16 @@ impl Table {
     }
 
     fn find(&self, number: Number) -> Option<Place>
-        ensures { λ r. ⌜ Searched (has-number (number .0)) (vec-items (now (self .entry) .rows)) r ⌝ }
+        ensures place { λ r. ⌜ Searched (has-number (number .0)) (vec-items (now (self .entry) .rows)) r ⌝ }
+        ensures held { λ r. ⌜ isSome r ≡ is-some (at (number .0) (objectsIn (vec-items (now (self .entry) .rows)))) ⌝ }
     {
         first(&self.rows, &HasNumber(number))
+    }
+
+    fn find_named(&self, parent: Number, name: &[u8]) -> Option<Place>
+        ensures { λ r. ⌜ Searched (placed (parent .0) (now (name .entry))) (vec-items (now (self .entry) .rows)) r ⌝ }
+    {
+        first(&self.rows, &HasPlace { parent, name })
     }
 
     fn find_file(&self, number: Number) -> Option<Place>
@@ -132,7 +139,7 @@ impl Table {
     fn has_name(&self, parent: Number, name: &[u8]) -> bool
         ensures { λ r. ⌜ r ≡ taken (parent .0) (now (name .entry)) (objectsIn (vec-items (now (self .entry) .rows))) ⌝ }
     {
-        first(&self.rows, &HasPlace { parent, name }).is_some()
+        self.find_named(parent, name).is_some()
     }
 
     fn has_children(&self, number: Number) -> bool
@@ -177,7 +184,7 @@ pub impl Store for Table as TableStore {
     }
 
     fn look(&self, directory: Number, name: &[u8]) -> Option<Number> {
-        let place = first(&self.rows, &HasPlace { parent: directory, name })?;
+        let place = self.find_named(directory, name)?;
         Some(place.entry.number)
     }
 

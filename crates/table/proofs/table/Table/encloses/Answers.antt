@@ -23,14 +23,14 @@ returns-in-rest c =
     let rows = vec-items (c .args .self .now .rows) in
     let x = c .args .number .0 in
     let p = c .loop-i .here .0 in
-    sym (ap (λ k. climbs k x (c .args .from .0) (objectsIn rows)) (sym (c .room-i-end .ensures)) ∙ c .loop-i .inv ∙ climb-stop (c .room-i-end .result) (c .loop-i .i) x p (objectsIn rows) (c .loop-i-test .taken) (c .if-here-number .left) (at-nowhere p rows (c .in-rest .ensures tt)))
+    sym (ap (λ k. climbs k x (c .args .from .0) (objectsIn rows)) (sym (c .room-i-end .ensures)) ∙ c .loop-i .inv ∙ climb-stop (c .room-i-end .result) (c .loop-i .i) x p (objectsIn rows) (c .loop-i-test .taken) (c .if-here-number .left) (at-nowhere p rows (c .in-rest .ensures tt .place)))
 
 pub loop-i-again : need.loop-i-again
 loop-i-again c =
     let rows = vec-items (c .args .self .now .rows) in
     let p = c .loop-i .here .0 in
     let f = c .in-Some .place in
-    c .loop-i .inv ∙ climb-up (c .room-i-end .result) (c .loop-i .i) (c .args .number .0) p (objectsIn rows) (c .loop-i-test .taken) (c .if-here-number .left) (objectOf (f .entry)) (at-found p rows f (c .in-Some .ensures tt))
+    c .loop-i .inv ∙ climb-up (c .room-i-end .result) (c .loop-i .i) (c .args .number .0) p (objectsIn rows) (c .loop-i-test .taken) (c .if-here-number .left) (objectOf (f .entry)) (at-found p rows f (c .in-Some .ensures tt .place))
 
 pub returns : need.returns
 returns c =

@@ -5,7 +5,7 @@ use Rattle.table.proofs.Holding.{dir-searched}
 use Rattle.table.proofs.table.Table.has_directory.Needs as need
 
 pub returns-in-Some : need.returns-in-Some
-returns-in-Some c = c .is-directory .ensures ∙ sym (dir-searched (c .args .number .0) (vec-items (c .args .self .now .rows)) (Some (c .in-Some .place)) (c .in-Some .ensures tt) (c .if-number-eq1 .left))
+returns-in-Some c = c .is-directory .ensures ∙ sym (dir-searched (c .args .number .0) (vec-items (c .args .self .now .rows)) (Some (c .in-Some .place)) (c .in-Some .ensures tt .place) (c .if-number-eq1 .left))
 
 pub returns-in-None : need.returns-in-None
-returns-in-None c = sym (dir-searched (c .args .number .0) (vec-items (c .args .self .now .rows)) None (c .in-None .ensures tt) (c .if-number-eq1 .left))
+returns-in-None c = sym (dir-searched (c .args .number .0) (vec-items (c .args .self .now .rows)) None (c .in-None .ensures tt .place) (c .if-number-eq1 .left))
