@@ -222,10 +222,10 @@ pub impl Store for Table as TableStore {
         if self.count >= self.room() {
             return Err(Refusal::StoreFull);
         }
+        let body = Body::new(kind);
         let Some(index) = first_free(&self.rows) else {
             return Err(Refusal::StoreFull);
         };
-        let body = Body::new(kind);
         self.rows[index] = Row::Used(Entry { number, parent, name: own, stamp, body });
         self.count += 1;
         Ok(())
