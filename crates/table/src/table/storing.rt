@@ -274,7 +274,7 @@ pub impl Store for Table as TableStore {
     }
 
     fn set_next(&mut self, next: Number) -> Result<(), Refusal> {
-        if next.0 < self.next.0 || next.0 > 0x8000_0000 {
+        if next.0 < self.next.0 || next.0 > Number::TEMPORARY.0 {
             return Err(Refusal::NextOutOfRange);
         }
         self.next = next;

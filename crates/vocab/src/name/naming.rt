@@ -59,6 +59,6 @@ impl Name {
     pub fn is(&self, name: &[u8]) -> bool
         ensures { λ r. ⌜ r ≡ same-name (nameOf (now (self .entry))) (now (name .entry)) ⌝ }
     {
-        self.text.as_slice() == name
+        self.as_bytes() == name
     }
 }

@@ -9,4 +9,4 @@ pub returns : need.returns
 unfolding same-name
 returns c =
     let m = matches-decides _ _ _ (c .eq .ensures) in
-    same-from-decides _ _ m (sameBytes-decides _ _) ∙ ap (λ z. sameBytes z (c .args .name .now)) (c .as-slice .ensures)
+    same-from-decides _ _ m (sameBytes-decides _ _) ∙ ap (λ z. sameBytes z (c .args .name .now)) (c .as-bytes .ensures)

@@ -1,4 +1,4 @@
-use mathlib.Core.Path.{_≡_, sym, ap, _∙_}
+use native.Mathlib.Omega.{arith}
 use Rattle.std.specs.Of.Vec.{vec-items}
 use Rattle.tree.proofs.Props.{untold}
 use Rattle.table.specs.Rows.{treeIn}
@@ -9,4 +9,4 @@ pub ghost-self : need.ghost-self
 ghost-self c =
     let self = c .args .self .now in
     let rows = vec-items (self .rows) in
-    (self .counted, (∣ rows-next-lawful rows (self .next .0) (c .args .next .0) (untold (treeIn rows (self .next .0)) (self .lawful)) (c .if-next-self .left) (c .if-next-gt2147483648 .left) ∣₁, tt))
+    (self .counted, (∣ rows-next-lawful rows (self .next .0) (c .args .next .0) (untold (treeIn rows (self .next .0)) (self .lawful)) (omega arith) (omega arith) ∣₁, tt))
