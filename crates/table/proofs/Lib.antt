@@ -1,3 +1,1 @@
-pub mod Searching
-pub mod Holding
-pub mod Storing
+pub mod Writing

@@ -1,0 +1,22 @@
+use mathlib.Core.Path.{_≡_, refl, sym, ap, _∙_}
+use Prim.Native.Nat.{_≤_, _^_, min}
+use native.Mathlib.Omega.{arith}
+use lib.ListN.{length}
+use Rattle.std.proofs.shelf.Lists.{refilled-is}
+use Rattle.rows.specs.Rows.{objectsIn}
+use Rattle.rows.proofs.Holding.{rows-empty, rows-empty-lawful}
+use Rattle.table.proofs.Table.open.Needs as need
+
+pub ghost-result : need.ghost-result
+ghost-result c =
+    let rows = c .free-all .last .rows in
+    let l : length rows ≡ c .args .rows .len = omega arith in
+    let none = ap objectsIn (refilled-is (c .args .rows) rows l) ∙ c .free-all .ensures in
+    (sym (ap length none), (∣ rows-empty-lawful _ none ∣₁, tt))
+
+pub returns : need.returns
+returns c =
+    let rows = c .free-all .last .rows in
+    let l : length rows ≡ c .args .rows .len = omega arith in
+    let i = refilled-is (c .args .rows) rows l in
+    rows-empty _ _ (ap length i ∙ l) (ap objectsIn i ∙ c .free-all .ensures)
