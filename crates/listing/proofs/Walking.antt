@@ -13,9 +13,9 @@ use Rattle.tree.specs.Law.{Lawful}
 use Rattle.tree.specs.Questions.{child, dir-at}
 use Rattle.tree.specs.Trees.{Object, Tree}
 use Rattle.vocab.specs.declared.number.Number.{Number}
-use Rattle.vocab.specs.Meaning.{numbered}
+use Rattle.vocab.specs.Meaning.{numbered, values}
+use Rattle.vocab.proofs.Numbering.{values-numbered}
 use Rattle.listing.specs.Listings.{beneath, listing}
-use Rattle.listing.specs.Meaning.{numberOf}
 use Rattle.listing.specs.Walks.{Chain, Gives, Place, Sound, advance, beyond, entered, inner, left, left-from, onward, place}
 use Rattle.listing.proofs.Beyond.{First, behind-first, beneath-file, beyond-all, beyond-first, beyond-none}
 use Rattle.listing.proofs.Chains.{chain-short}
@@ -91,15 +91,11 @@ module _ (t : Tree) (w : Lawful t) where
       go s None e = record { chain = s .chain; room = s .room; pops = s .pops ∙ sym (ap (λ z. popped (z ++ left-from t up d)) (beyond-none l (cap - suc (length up)) d a e)) }
       go s (Some c) e = enters n (d ∷ up) a c ch h (behind-first d a c 2 l (w .ascending) e)
 
-  pub advance-gives : (p q : Place) (r : Option Number) → q ≡ advance t p .0 → r ≡ numbered (advance t p .1) → Gives t p (numberOf r) q
+  pub advance-gives : (p q : Place) (r : Option Number) → q ≡ advance t p .0 → r ≡ numbered (advance t p .1) → Gives t p (values r) q
   advance-gives p q r e f s =
       let v = steps (p .room) (p .path) (p .after) (s .chain) (s .room) in
-      let same : numberOf r ≡ advance t p .1 = ap numberOf f ∙ valued (advance t p .1) in
+      let same : values r ≡ advance t p .1 = ap values f ∙ values-numbered (advance t p .1) in
       rw (e, same) (record { chain = v .chain; room = omega (arith, v .room, s .room) }, v .pops)
-    where
-      valued : (x : Option ℕ) → numberOf (numbered x) ≡ x
-      valued None = refl
-      valued (Some y) = refl
 
   pub listing-left : (p : Place) (n : ℕ) → p ≡ place n [] 0 → length l ≤ n → Sound t p × (left t p ≡ listing t)
   listing-left p n e h = rw e (record { chain = tt; room = h }, beyond-all l cap 1 2 (omega arith) (w .ascending))

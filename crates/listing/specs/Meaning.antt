@@ -1,12 +1,9 @@
 -- What the code's types stand for in a walk. Assumes nothing.
 --     trail s        the numbers that a stack holds
 --     placeOf w      how far w has come
---     numberOf r     the number in r, or none
 use mathlib.Core.List.{List, map}
 use Prim.Native.Nat.{ℕ}
 use denote.Ref.{now}
-use Rattle.std.specs.Options.{mapped}
-use Rattle.std.specs.declared.option.Option.{Option}
 use Rattle.stack.specs.declared.Stack.{Stack}
 use Rattle.stack.specs.Stacks.{places, stacked}
 use Rattle.vocab.specs.declared.number.Number.{Number}
@@ -18,6 +15,3 @@ trail s = map (λ n. n .0) (stacked s)
 
 abbrev pub placeOf : {S : Type 0} → Listing S → Place
 placeOf w = place (places (now (w .path))) (trail (now (w .path))) (w .after .0)
-
-abbrev pub numberOf : Option Number → Option ℕ
-numberOf r = mapped (λ n. n .0) r

@@ -5,13 +5,13 @@ ghost use Prim.Native.Nat.{_<_, _≤_};
 ghost use lib.ListN.{length};
 ghost use Rattle.std.specs.Results.{Cases as ByOk};
 ghost use Rattle.vocab.specs.declared.refusal.Refusal.the-variants.{ListShort};
-ghost use Rattle.vocab.specs.Meaning.{numbered};
+ghost use Rattle.vocab.specs.Meaning.{numbered, values};
 ghost use Rattle.stack.specs.Stacks.{places};
 ghost use Rattle.tree.specs.Questions.{dir-at};
 ghost use Rattle.std.specs.Vec.{made};
 ghost use Rattle.listing.specs.Listings.{listing, Lists-each-once};
 ghost use Rattle.listing.specs.Walks.{place, inner, entered, advance, left, Sound, Gives};
-ghost use Rattle.listing.specs.Meaning.{placeOf, numberOf};
+ghost use Rattle.listing.specs.Meaning.{placeOf};
 use stack::Stack;
 use tree::store::Store;
 use vocab::kind::Kind;
@@ -53,7 +53,7 @@ impl<'s, 'p, 'r, S: Store> Listing<'s, 'p, 'r, S> {
         ensures place { λ _. ⌜ placeOf (now (self .exit)) ≡ advance (tree (now (now (self .entry) .store))) (placeOf (now (self .entry))) .0 ⌝ }
         ensures given { λ r. ⌜ r ≡ numbered (advance (tree (now (now (self .entry) .store))) (placeOf (now (self .entry))) .1) ⌝ }
         ensures store { λ _. ⌜ now (now (self .exit) .store) ≡ now (now (self .entry) .store) ⌝ }
-        ensures follows { λ r. ⌜ Gives (tree (now (now (self .entry) .store))) (placeOf (now (self .entry))) (numberOf r) (placeOf (now (self .exit))) ⌝ }
+        ensures follows { λ r. ⌜ Gives (tree (now (now (self .entry) .store))) (placeOf (now (self .entry))) (values r) (placeOf (now (self .exit))) ⌝ }
     {
         loop {
             if let Some(number) = self.store.child(self.directory(), self.after) {

@@ -20,7 +20,6 @@ use Rattle.tree.proofs.Ascending.{ascends-uninsert, at-insert-other, at-insert-
 use Rattle.tree.proofs.Inserting.{change-insert, child-insert, insert-insert, length-insert, some-insert}
 use Rattle.tree.proofs.Keeping.{bare-lawful}
 use Rattle.tree.proofs.Objects.{Split, split-insert, split-keep, without-insert, without-own-insert}
-use Rattle.vocab.specs.Meaning.{numbered, values}
 use Rattle.rows.specs.declared.row.Entry.{Entry}
 use Rattle.rows.specs.declared.row.Row.{Row}
 use Rattle.rows.specs.declared.row.Row.the-variants.{Free, Used}
@@ -199,7 +198,3 @@ module _ (p a : ℕ) where
 
   pub child-more : (rows : List Row) (i : ℕ) (r d : Row) → i < length rows → getD rows i d ≡ r → child p a (objectsIn (take (i + 1) rows)) ≡ elim r [ Free ↦ child p a (objectsIn (take i rows)) | Used e ↦ cond (picks (objectOf e)) (smaller (child p a (objectsIn (take i rows))) (e .number .0)) (child p a (objectsIn (take i rows))) ]
   child-more rows i r d h k = ap (λ z. child p a (objectsIn z)) (take-more rows i d h ∙ ap (λ z. take i rows ++ z ∷ []) k) ∙ child-push (take i rows) r
-
-pub values-numbered : (u : Option ℕ) → values (numbered u) ≡ u
-values-numbered None = refl
-values-numbered (Some x) = refl

@@ -72,7 +72,10 @@ pub fn first<T: Test>(rows: &[Row], test: &T) -> Option<Place>
         match row {
             Row::Used(entry) => {
                 if test.test(entry) {
-                    return Some(Place { index: i, entry: *entry });
+                    return Some(Place {
+                        index: i,
+                        entry: *entry,
+                    });
                 }
             }
             Row::Free => {}

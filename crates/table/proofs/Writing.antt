@@ -8,14 +8,13 @@ use lib.Dec.{eqb}
 use lib.ListN.{length, getD, set, length-set}
 use Rattle.std.specs.Of.Vec.{vec-items}
 use Rattle.std.specs.Options.{mapped}
-use Rattle.std.specs.Slices.{found}
 use Rattle.std.specs.declared.option.Option.{Option}
 use Rattle.std.specs.declared.option.Option.the-variants.{Some, None}
 use Rattle.std.specs.declared.result.Result.the-variants.{Ok}
 use Rattle.std.proofs.shelf.Tests.{ne-eqb, cond-false}
 use Rattle.tree.specs.Changes.{Changed, added, dropped, fresh, moved, put, with-contents, with-place}
 use Rattle.tree.specs.Law.{Lawful, Stamp-fits}
-use Rattle.tree.specs.Questions.{bare, climbs, dir-at, directory, has-child, held, is-file, is-some, look, new-body, placed, shown, taken}
+use Rattle.tree.specs.Questions.{bare, climbs, dir-at, directory, has-child, is-file, is-some, look, new-body, placed, shown, taken}
 use Rattle.tree.specs.Trees.{Ascends, Object, Tree, at, change, change-one, file, insert, is, with-objects, without}
 use Rattle.tree.proofs.Answering.{add-done, drop-done, move-done, put-done}
 use Rattle.tree.proofs.Ascending.{ascends-uninsert, at-insert-other, at-insert-own, length-less}
@@ -30,7 +29,6 @@ use Rattle.vocab.specs.declared.kind.Kind.{Kind}
 use Rattle.vocab.specs.declared.name.Name.{Name}
 use Rattle.vocab.specs.declared.number.Number.{Number}
 use Rattle.vocab.specs.declared.stamp.Stamp.{Stamp}
-use Rattle.vocab.specs.Buffers.{fits}
 use Rattle.vocab.specs.Meaning.{contentsOf, nameOf}
 use Rattle.vocab.specs.Names.{valid-name}
 use Rattle.rows.specs.declared.row.Body.{Body as BodyRow}

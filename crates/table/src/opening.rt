@@ -4,9 +4,9 @@ ghost use Prim.Native.Nat.{min};
 ghost use Rattle.std.specs.Of.Vec.{vec-items, vec-len};
 ghost use Rattle.tree.specs.Law.{empty};
 ghost use Rattle.rows.specs.Rows.{treeIn};
+use crate::Table;
 use rows::freeing::free_all;
 use rows::row::Row;
-use crate::Table;
 use vocab::number::Number;
 
 impl Table {
@@ -15,13 +15,21 @@ impl Table {
         ensures { λ r. ⌜ treeIn (vec-items (r .rows)) (r .next .0) ≡ empty (min (vec-len rows) 4096) ⌝ }
     {
         free_all(&mut rows);
-        Table { rows, count: 0, next: Number::FIRST }
+        Table {
+            rows,
+            count: 0,
+            next: Number::FIRST,
+        }
     }
 
     pub fn close(self) -> Vec<Row>
         ensures { λ r. ⌜ vec-items r ≡ vec-items (self .rows) ⌝ }
     {
-        let Table { rows, count: _, next: _ } = self;
+        let Table {
+            rows,
+            count: _,
+            next: _,
+        } = self;
         rows
     }
 }

@@ -8,12 +8,11 @@ ghost use Rattle.std.specs.Options.{Cases as BySome, isSome};
 ghost use Rattle.tree.specs.Trees.{is as has-number, at};
 ghost use Rattle.tree.specs.Questions.{placed, is-some, is-file, dir-at, taken, has-child, climbs};
 ghost use Rattle.rows.specs.Rows.{objectsIn, treeIn, Found, Searched};
+use crate::Table;
+use rows::freeing::free_all;
 use rows::row::Body;
 use rows::row::Entry;
 use rows::row::Row;
-use rows::search::first;
-use rows::search::first_free;
-use rows::search::least;
 use rows::search::HasNumber;
 use rows::search::HasNumberTest;
 use rows::search::HasParent;
@@ -21,8 +20,9 @@ use rows::search::HasParentTest;
 use rows::search::HasPlace;
 use rows::search::HasPlaceTest;
 use rows::search::Place;
-use rows::freeing::free_all;
-use crate::Table;
+use rows::search::first;
+use rows::search::first_free;
+use rows::search::least;
 use tree::root::root_status;
 use tree::store::Store;
 use vocab::buffer::copy_front;
@@ -61,7 +61,11 @@ impl Table {
         ensures { λ r. ⌜ BySome r (is-file (at (number .0) (objectsIn (vec-items (now (self .entry) .rows)))) ≡ false) (λ f. (is-file (at (number .0) (objectsIn (vec-items (now (self .entry) .rows)))) ≡ true) × Found (has-number (number .0)) (vec-items (now (self .entry) .rows)) f) ⌝ }
     {
         let place = self.find(number)?;
-        if place.entry.is_directory() { None } else { Some(place) }
+        if place.entry.is_directory() {
+            None
+        } else {
+            Some(place)
+        }
     }
 
     fn holds(&self, number: Number) -> bool
@@ -154,7 +158,14 @@ pub impl Store for Table as TableStore {
         copy_front(held.as_slice(), buffer)
     }
 
-    fn add(&mut self, kind: Kind, parent: Number, name: &[u8], number: Number, stamp: Stamp) -> Result<(), Refusal> {
+    fn add(
+        &mut self,
+        kind: Kind,
+        parent: Number,
+        name: &[u8],
+        number: Number,
+        stamp: Stamp,
+    ) -> Result<(), Refusal> {
         let own = Name::new(name)?;
         if number.0 < 2 || self.holds(number) {
             return Err(Refusal::NumberInUse);
@@ -172,7 +183,13 @@ pub impl Store for Table as TableStore {
         let Some(index) = first_free(&self.rows) else {
             return Err(Refusal::StoreFull);
         };
-        self.rows[index] = Row::Used(Entry { number, parent, name: own, stamp, body });
+        self.rows[index] = Row::Used(Entry {
+            number,
+            parent,
+            name: own,
+            stamp,
+            body,
+        });
         self.count += 1;
         Ok(())
     }
@@ -185,7 +202,11 @@ pub impl Store for Table as TableStore {
             return Err(Refusal::ContentsTooLong);
         };
         let body = Body::File(contents);
-        self.rows[place.index] = Row::Used(Entry { stamp, body, ..place.entry });
+        self.rows[place.index] = Row::Used(Entry {
+            stamp,
+            body,
+            ..place.entry
+        });
         Ok(())
     }
 
@@ -215,7 +236,11 @@ pub impl Store for Table as TableStore {
         if self.encloses(number, parent) {
             return Err(Refusal::BeneathItself);
         }
-        self.rows[place.index] = Row::Used(Entry { parent, name: own, ..place.entry });
+        self.rows[place.index] = Row::Used(Entry {
+            parent,
+            name: own,
+            ..place.entry
+        });
         Ok(())
     }
 

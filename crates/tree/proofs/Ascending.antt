@@ -99,6 +99,7 @@ module _ (o : Object) (l : List Object) where
           go : (r : Option Object) → or-else r None ≡ r
           go None = refl
           go (Some p) = refl
+
       high : o .number ≤ y → or-else (at y (keep (lower (o .number)) l)) (at y (keep (higher (o .number)) l)) ≡ at y l
       high le = rw (at-keep-out y (lower (o .number)) l (λ p e. grind (arith, tells)), at-keep-in y (higher (o .number)) l (λ p e. grind (arith, tells)))
 

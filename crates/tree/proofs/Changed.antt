@@ -44,6 +44,7 @@ module _ (f : ℕ) (g : Object → Object) (same : (o : Object) → g o .number 
       pick : (o : Object) (b : Bool) → q (Some (cond b (g o) o)) ≡ q (Some o)
       pick o true = k o
       pick o false = refl
+
       go : (r : Option Object) → q (mapped (change-one f g) r) ≡ q r
       go None = refl
       go (Some o) = pick o (is f o)

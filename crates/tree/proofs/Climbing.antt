@@ -52,14 +52,14 @@ cut x (suc k) p q l h =
     ⊎-elim
     (λ e. inr (ap (λ y. climbs (suc k) x y l) (sym e) ∙ h))
     (λ ne.
-      ⊎-elim
-      (λ e. inl (climbs-here (suc k) x q (without p l) e))
-      (λ w.
-        ⊎-elim
-        (λ s. inl (climbs-step k x q (without p l) (w .0) (at-without p q l (ne-eqb q p ne) ∙ w .1) s))
-        (λ s. inr (climbs-fuel k x p l s))
-        (cut x k p (w .0 .parent) l (w .2)))
-      (climbs-cases k x q l h))
+    ⊎-elim
+    (λ e. inl (climbs-here (suc k) x q (without p l) e))
+    (λ w.
+    ⊎-elim
+    (λ s. inl (climbs-step k x q (without p l) (w .0) (at-without p q l (ne-eqb q p ne) ∙ w .1) s))
+    (λ s. inr (climbs-fuel k x p l s))
+    (cut x k p (w .0 .parent) l (w .2)))
+    (climbs-cases k x q l h))
     (cases-eq q p)
 
 pub length-without : (x : ℕ) (o : Object) (l : List Object) → at x l ≡ Some o → length (without x l) < length l
@@ -84,10 +84,10 @@ climbs-short x (suc k) p l n h e =
     ⊎-elim
     (λ z. climbs-here n x p l z)
     (λ w.
-      ⊎-elim
-      (λ s. go (w .0) (w .1) n h (λ m q. climbs-short x k (w .0 .parent) (without p l) m q s))
-      (λ s. climbs-short x k p l n h s)
-      (cut x k p (w .0 .parent) l (w .2)))
+    ⊎-elim
+    (λ s. go (w .0) (w .1) n h (λ m q. climbs-short x k (w .0 .parent) (without p l) m q s))
+    (λ s. climbs-short x k p l n h s)
+    (cut x k p (w .0 .parent) l (w .2)))
     (climbs-cases k x p l e)
   where
     go : (o : Object) → at p l ≡ Some o → (n : ℕ) → length l ≤ n → ((m : ℕ) → length (without p l) ≤ m → climbs m x (o .parent) (without p l) ≡ true) → climbs n x p l ≡ true
@@ -112,8 +112,8 @@ module _ (x q : ℕ) (l m : List Object) (other : (y : ℕ) → eqb y x ≡ fals
       ⊎-elim
       (λ z. (zero, eq-eqb p 1 z))
       (λ v.
-        ⊎-elim
-        (λ s. leads-step p m o (ap (λ y. at y m) s ∙ here) up)
-        (λ ne. leads-step p m (v .0) (other p (ne-eqb p x ne) ∙ v .1) (climbs-moved o here up k (v .0 .parent) (v .2)))
-        (cases-eq p x))
+      ⊎-elim
+      (λ s. leads-step p m o (ap (λ y. at y m) s ∙ here) up)
+      (λ ne. leads-step p m (v .0) (other p (ne-eqb p x ne) ∙ v .1) (climbs-moved o here up k (v .0 .parent) (v .2)))
+      (cases-eq p x))
       (climbs-cases k 1 p l e)

@@ -29,9 +29,9 @@ insert-later o p l lt =
     let f : keep hp (keep lo l) ≡ [] = keep-none hp lo l (λ q e. grind (arith, tells)) in
     let g : keep hp (keep ho l) ≡ keep hp l = keep-keep hp ho l ∙ c in
     let left : insert o (insert p l) ≡ keep lo l ++ (o ∷ (keep ho (keep lp l) ++ (p ∷ keep hp l))) =
-        rw (keep-append lo (keep lp l) (p ∷ keep hp l), keep-append ho (keep lp l) (p ∷ keep hp l), le-ltb (p .number) (o .number) (omega arith), a, b, c, append-nil (keep lo l)) in
+    rw (keep-append lo (keep lp l) (p ∷ keep hp l), keep-append ho (keep lp l) (p ∷ keep hp l), le-ltb (p .number) (o .number) (omega arith), a, b, c, append-nil (keep lo l)) in
     let right : insert p (insert o l) ≡ keep lo l ++ (o ∷ (keep lp (keep ho l) ++ (p ∷ keep hp l))) =
-        rw (keep-append lp (keep lo l) (o ∷ keep ho l), keep-append hp (keep lo l) (o ∷ keep ho l), lt-ltb (o .number) (p .number) lt, d, f, g) (append-assoc (keep lo l) (o ∷ keep lp (keep ho l)) (p ∷ keep hp l)) in
+    rw (keep-append lp (keep lo l) (o ∷ keep ho l), keep-append hp (keep lo l) (o ∷ keep ho l), lt-ltb (o .number) (p .number) lt, d, f, g) (append-assoc (keep lo l) (o ∷ keep lp (keep ho l)) (p ∷ keep hp l)) in
     left ∙ ap (λ z. keep lo l ++ (o ∷ (z ++ (p ∷ keep hp l)))) (keep-keep ho lp l) ∙ sym right
 
 pub insert-insert : (o p : Object) (l : List Object) → (o .number ≡ p .number → ⊥) → insert o (insert p l) ≡ insert p (insert o l)

@@ -69,35 +69,35 @@ module _ (t : Tree) (w : Lawful t) (o : Object) (free : at (o .number) (t .objec
       let count : length (insert o l) ≤ t .capacity = simp length-append (omega (arith, length-cut o l)) in
       let up = dir-leads t w (o .parent) home in
       let mine : Lawful-object (t .capacity) (insert o l) o = record {
-            number = high;
-            name = name;
-            stamp = stamp;
-            short = few;
-            home = dir-old (o .parent) home;
-            rooted = climbs-short 1 (up .0) (o .parent) (insert o l) (t .capacity) count (climbs-follows (up .0) 1 (o .parent) l (insert o l) follows-old (up .1));
-          } in
+        number = high;
+        name = name;
+        stamp = stamp;
+        short = few;
+        home = dir-old (o .parent) home;
+        rooted = climbs-short 1 (up .0) (o .parent) (insert o l) (t .capacity) count (climbs-follows (up .0) 1 (o .parent) l (insert o l) follows-old (up .1));
+      } in
       record {
         next-low = w .next-low;
         next-high = w .next-high;
         ascending = ascends-insert 2 o l low free (w .ascending);
         each = λ y p e.
-          ⊎-elim
-          (λ q. subst (Lawful-object (t .capacity) (insert o l)) (q .1) mine)
-          (λ q. fine-follows (t .capacity) l (insert o l) p follows-old (dir-old (p .parent)) (w .each y p q))
-          (new-or-old y p e);
+            ⊎-elim
+            (λ q. subst (Lawful-object (t .capacity) (insert o l)) (q .1) mine)
+            (λ q. fine-follows (t .capacity) l (insert o l) p follows-old (dir-old (p .parent)) (w .each y p q))
+            (new-or-old y p e);
         names = λ x y p q e f h.
-          ⊎-elim
-          (λ a.
+            ⊎-elim
+            (λ a.
             ⊎-elim
             (λ b. sym (a .0) ∙ b .0)
             (λ b. absurd (both-ways (placed (o .parent) (o .name) q) (some-at (placed (o .parent) (o .name)) y q l place b) (ap (λ z. placed (z .parent) (z .name) q) (a .1) ∙ h)))
             (new-or-old y q f))
-          (λ a.
+            (λ a.
             ⊎-elim
             (λ b. absurd (both-ways (placed (o .parent) (o .name) p) (some-at (placed (o .parent) (o .name)) x p l place a) (placed-flip o p ∙ ap (placed (p .parent) (p .name)) (b .1) ∙ h)))
             (λ b. w .names x y p q a b h)
             (new-or-old y q f))
-          (new-or-old x p e);
+            (new-or-old x p e);
         room = count;
       }
     where
@@ -115,16 +115,16 @@ without-lawful t w x h =
       next-high = w .next-high;
       ascending = ascends-keep (λ o. not (is x o)) 2 l (w .ascending);
       each = λ y p e.
-        let v = w .each y p (old y p e) in
-        let ne = some-at (child-of x) y p l h (old y p e) in
-        record {
-          number = v .number;
-          name = v .name;
-          stamp = v .stamp;
-          short = v .short;
-          home = ap (λ r. eqb (p .parent) 1 || is-dir r) (at-without x (p .parent) l ne) ∙ v .home;
-          rooted = climbs-without (t .capacity) x 1 (p .parent) l (some-keep (child-of x) (λ o. not (is x o)) l h) ne ∙ v .rooted;
-        };
+          let v = w .each y p (old y p e) in
+          let ne = some-at (child-of x) y p l h (old y p e) in
+          record {
+            number = v .number;
+            name = v .name;
+            stamp = v .stamp;
+            short = v .short;
+            home = ap (λ r. eqb (p .parent) 1 || is-dir r) (at-without x (p .parent) l ne) ∙ v .home;
+            rooted = climbs-without (t .capacity) x 1 (p .parent) l (some-keep (child-of x) (λ o. not (is x o)) l h) ne ∙ v .rooted;
+          };
       names = λ y z p q e f k. w .names y z p q (old y p e) (old z q f) k;
       room = omega (arith, w .room, length-keep (λ o. not (is x o)) l);
     }
@@ -154,14 +154,14 @@ module _ (t : Tree) (w : Lawful t) (x : ℕ) (g : Object → Object) (same : (o 
       ⊎-elim
       (λ e. or-left (eqb p 1) _ e)
       (λ e.
-        let v = dir-some (at p (t .objects)) e in
-        or-right (eqb p 1) _
-        (⊎-elim
-          (λ q.
-            let here : at x (t .objects) ≡ Some (v .0) = ap (λ y. at y (t .objects)) (sym q) ∙ v .1 in
-            ap (λ y. is-dir (at y (change x g (t .objects)))) q ∙ ap is-dir (at-own x g same (t .objects) ∙ ap (mapped g) here) ∙ keeps (v .0) here ∙ ap is-dir (sym (v .1)) ∙ e)
-          (λ ne. ap is-dir (at-other x g same (t .objects) p (ne-eqb p x ne)) ∙ e)
-          (cases-eq p x)))
+      let v = dir-some (at p (t .objects)) e in
+      or-right (eqb p 1) _
+      (⊎-elim
+      (λ q.
+      let here : at x (t .objects) ≡ Some (v .0) = ap (λ y. at y (t .objects)) (sym q) ∙ v .1 in
+      ap (λ y. is-dir (at y (change x g (t .objects)))) q ∙ ap is-dir (at-own x g same (t .objects) ∙ ap (mapped g) here) ∙ keeps (v .0) here ∙ ap is-dir (sym (v .1)) ∙ e)
+      (λ ne. ap is-dir (at-other x g same (t .objects) p (ne-eqb p x ne)) ∙ e)
+      (cases-eq p x)))
       (or-cases (eqb p 1) _ h)
 
   pub change-lawful : ((o : Object) → at x (t .objects) ≡ Some o → (valid-name (g o .name) ≡ true) × Stamp-fits (g o .stamp) × (length (contents (g o)) ≤ 256) × (dir-at (g o .parent) (t .objects) ≡ true) × (directory (g o) ≡ directory o)) → ((k p : ℕ) → climbs k 1 p (t .objects) ≡ true → Leads p (change x g (t .objects))) → ((y : ℕ) (o p : Object) → at x (t .objects) ≡ Some o → at y (t .objects) ≡ Some p → eqb y x ≡ false → placed (g o .parent) (g o .name) p ≡ false) → Lawful (with-objects t (change x g (t .objects)))
@@ -176,31 +176,31 @@ module _ (t : Tree) (w : Lawful t) (x : ℕ) (g : Object → Object) (same : (o 
         next-high = w .next-high;
         ascending = ascends-map (change-one x g) (change-number x g same) 2 l (w .ascending);
         each = λ y p e.
-          ⊎-elim
-          (λ v.
+            ⊎-elim
+            (λ v.
             let o = v .0 in
             let old = w .each x o (v .2) in
             let new = fits o (v .2) in
             let lead = dir-leads t w (g o .parent) (new .3) in
             let fine : Lawful-object (t .capacity) m (g o) = record { number = omega (arith, same o, old .number); name = new .0; stamp = new .1; short = new .2; home = home (g o .parent) (new .3); rooted = up (lead .0) (g o .parent) (lead .1) } in
             subst (Lawful-object (t .capacity) m) (v .3) fine)
-          (λ v.
+            (λ v.
             let old = w .each y p (v .1) in
             record { number = old .number; name = old .name; stamp = old .stamp; short = old .short; home = home (p .parent) (old .home); rooted = up (t .capacity) (p .parent) (old .rooted) })
-          (changed-or-old y p e);
+            (changed-or-old y p e);
         names = λ y z p q e f h.
-          ⊎-elim
-          (λ a.
+            ⊎-elim
+            (λ a.
             ⊎-elim
             (λ b. a .1 ∙ sym (b .1))
             (λ b. absurd (both-ways (placed (g (a .0) .parent) (g (a .0) .name) q) (apart z (a .0) q (a .2) (b .1) (b .0)) (ap (λ u. placed (u .parent) (u .name) q) (a .3) ∙ h)))
             (changed-or-old z q f))
-          (λ a.
+            (λ a.
             ⊎-elim
             (λ b. absurd (both-ways (placed (g (b .0) .parent) (g (b .0) .name) p) (apart y (b .0) p (b .2) (a .1) (a .0)) (placed-flip (g (b .0)) p ∙ ap (placed (p .parent) (p .name)) (b .3) ∙ h)))
             (λ b. w .names y z p q (a .1) (b .1) h)
             (changed-or-old z q f))
-          (changed-or-old y p e);
+            (changed-or-old y p e);
         room = count;
       }
 
@@ -210,8 +210,8 @@ module _ (t : Tree) (w : Lawful t) where
   added-lawful k p n x s high fits =
       judge-keeps Lawful (add-checks t p n x) t (with-objects t (insert (fresh k p n x s) (t .objects)), tt) w
       (λ h.
-        let a = and-parts (leb 2 x) (not (is-some (at x (t .objects)))) (h .1 .0) in
-        insert-lawful t w (fresh k p n x s) (some-none (at x (t .objects)) (not-true _ (a .1))) (leb-true 2 x (a .0)) high (h .0) fits (few k) (h .1 .1 .0) (not-true _ (h .1 .1 .1 .0)) (ltb-true (length (t .objects)) (t .capacity) (h .1 .1 .1 .1 .0)))
+      let a = and-parts (leb 2 x) (not (is-some (at x (t .objects)))) (h .1 .0) in
+      insert-lawful t w (fresh k p n x s) (some-none (at x (t .objects)) (not-true _ (a .1))) (leb-true 2 x (a .0)) high (h .0) fits (few k) (h .1 .1 .0) (not-true _ (h .1 .1 .1 .0)) (ltb-true (length (t .objects)) (t .capacity) (h .1 .1 .1 .1 .0)))
     where
       few : (k : Kind) → length (contents (fresh k p n x s)) ≤ 256
       few Directory = omega arith
@@ -225,10 +225,10 @@ module _ (t : Tree) (w : Lawful t) where
       let l = t .objects in
       judge-keeps Lawful (put-checks t x c) t (with-objects t (change x (with-contents c s) l), tt) w
       (λ h.
-        change-lawful t w x (with-contents c s) (λ o. refl)
-        (λ o e. let v = w .each x o e in (v .name, fits, leb-true (length c) 256 (h .1 .0), v .home, sym (ap is-dir (sym e) ∙ dir-file (at x l) (h .0))))
-        (λ k p e. (k, climbs-follows k 1 p l (change x (with-contents c s) l) (λ y o f. (change-one x (with-contents c s) o, at-change x y (with-contents c s) (λ o. refl) l ∙ ap (mapped (change-one x (with-contents c s))) f, kept o (is x o))) e))
-        (λ y o p e f ne. ⊎-elim (λ b. absurd (eqb-false y x ne (sym (w .names x y o p e f b)))) (λ b. b) (cases-bool (placed (o .parent) (o .name) p))))
+      change-lawful t w x (with-contents c s) (λ o. refl)
+      (λ o e. let v = w .each x o e in (v .name, fits, leb-true (length c) 256 (h .1 .0), v .home, sym (ap is-dir (sym e) ∙ dir-file (at x l) (h .0))))
+      (λ k p e. (k, climbs-follows k 1 p l (change x (with-contents c s) l) (λ y o f. (change-one x (with-contents c s) o, at-change x y (with-contents c s) (λ o. refl) l ∙ ap (mapped (change-one x (with-contents c s))) f, kept o (is x o))) e))
+      (λ y o p e f ne. ⊎-elim (λ b. absurd (eqb-false y x ne (sym (w .names x y o p e f b)))) (λ b. b) (cases-bool (placed (o .parent) (o .name) p))))
     where
       kept : (o : Object) (b : Bool) → cond b (with-contents c s o) o .parent ≡ o .parent
       kept o true = refl
@@ -239,21 +239,21 @@ module _ (t : Tree) (w : Lawful t) where
       let l = t .objects in
       judge-keeps Lawful (move-checks t x q m) t (with-objects t (change x (with-place q m) l), tt) w
       (λ h.
-        let v = some-some (at x l) (h .1 .0) in
-        let other = at-other x (with-place q m) (λ o. refl) l in
-        let lead = dir-leads t w q (h .1 .1 .0) in
-        let up = climbs-avoids x q l (change x (with-place q m) l) other (t .capacity) q (not-true _ (h .1 .1 .1 .1 .0)) (climbs-short 1 (lead .0) q l (t .capacity) (w .room) (lead .1)) in
-        change-lawful t w x (with-place q m) (λ o. refl)
-        (λ o e. let u = w .each x o e in (h .0, u .stamp, u .short, h .1 .1 .0, refl))
-        (climbs-moved x q l (change x (with-place q m) l) other (with-place q m (v .0)) (at-own x (with-place q m) (λ o. refl) l ∙ ap (mapped (with-place q m)) (v .1)) (t .capacity, up))
-        (λ y o p e f ne. some-at (placed q m) y p l (not-true _ (h .1 .1 .1 .0)) f))
+      let v = some-some (at x l) (h .1 .0) in
+      let other = at-other x (with-place q m) (λ o. refl) l in
+      let lead = dir-leads t w q (h .1 .1 .0) in
+      let up = climbs-avoids x q l (change x (with-place q m) l) other (t .capacity) q (not-true _ (h .1 .1 .1 .1 .0)) (climbs-short 1 (lead .0) q l (t .capacity) (w .room) (lead .1)) in
+      change-lawful t w x (with-place q m) (λ o. refl)
+      (λ o e. let u = w .each x o e in (h .0, u .stamp, u .short, h .1 .1 .0, refl))
+      (climbs-moved x q l (change x (with-place q m) l) other (with-place q m (v .0)) (at-own x (with-place q m) (λ o. refl) l ∙ ap (mapped (with-place q m)) (v .1)) (t .capacity, up))
+      (λ y o p e f ne. some-at (placed q m) y p l (not-true _ (h .1 .1 .1 .0)) f))
 
   pub next-lawful : (n : ℕ) → Lawful (next-set t n .0)
   next-lawful n =
       judge-keeps Lawful (check (leb (t .next) n && leb n (2 ^ 31)) NextOutOfRange ∷ []) t (with-next t n, tt) w
       (λ h.
-        let a = and-parts (leb (t .next) n) (leb n (2 ^ 31)) (h .0) in
-        record { next-low = omega (arith, w .next-low, leb-true (t .next) n (a .0)); next-high = leb-true n (2 ^ 31) (a .1); ascending = w .ascending; each = w .each; names = w .names; room = w .room })
+      let a = and-parts (leb (t .next) n) (leb n (2 ^ 31)) (h .0) in
+      record { next-low = omega (arith, w .next-low, leb-true (t .next) n (a .0)); next-high = leb-true n (2 ^ 31) (a .1); ascending = w .ascending; each = w .each; names = w .names; room = w .room })
 
 -- a tree of no objects
 pub bare-lawful : (cap n : ℕ) → 2 ≤ n → n ≤ 2 ^ 31 → Lawful (record { capacity = cap; next = n; objects = [] })

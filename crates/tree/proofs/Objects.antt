@@ -54,12 +54,15 @@ split-insert o l s n = elim (cases-lt (o .number) n) [ inl lt ↦ after lt | inr
   where
     B : List Object
     B = keep (lower (o .number)) l
+
     A : List Object
     A = keep (higher (o .number)) l
+
     before : n ≤ o .number → keep (lower n) (insert o l) ++ keep (higher n) (insert o l) ≡ insert o l
     before le =
         rw (keep-append (lower n) B (o ∷ A), keep-append (higher n) B (o ∷ A), le-ltb (o .number) n le, keep-none (lower n) (higher (o .number)) l (λ x e. grind (arith, tells)), keep-all (higher n) (higher (o .number)) l (λ x e. grind (arith, tells)), append-nil (keep (lower n) B))
         (sym (append-assoc (keep (lower n) B) (keep (higher n) B) (o ∷ A)) ∙ ap (λ z. z ++ (o ∷ A)) (split-keep (lower (o .number)) l s n))
+
     after : o .number < n → keep (lower n) (insert o l) ++ keep (higher n) (insert o l) ≡ insert o l
     after lt =
         rw (keep-append (lower n) B (o ∷ A), keep-append (higher n) B (o ∷ A), lt-ltb (o .number) n lt, keep-all (lower n) (lower (o .number)) l (λ x e. grind (arith, tells)), keep-none (higher n) (lower (o .number)) l (λ x e. grind (arith, tells)))

@@ -6,7 +6,7 @@
 --     next-set t n           the next number is n
 --     cleared t              no objects; capacity and next number stay
 -- Each but the last gives the tree after, and the answer.
-use mathlib.Core.Bool.{Bool, not, _&&_}
+use mathlib.Core.Bool.{not, _&&_}
 use mathlib.Core.List.{List, [], _∷_}
 use Prim.Native.Nat.{ℕ, _^_}
 use lib.Dec.{leb, ltb}
@@ -18,7 +18,7 @@ use Rattle.vocab.specs.declared.refusal.Refusal.{Refusal}
 use Rattle.vocab.specs.declared.refusal.Refusal.the-variants.{BadName, NumberInUse, NoSuchDirectory, NameTaken, StoreFull, NoSuchObject, ContentsTooLong, HasChildren, BeneathItself, NextOutOfRange}
 use Rattle.vocab.specs.Checks.{Check, check, judge}
 use Rattle.vocab.specs.Names.{valid-name}
-use Rattle.tree.specs.Trees.{Body, file, Object, Tree, at, insert, without, change, with-objects}
+use Rattle.tree.specs.Trees.{file, Object, Tree, at, insert, without, change, with-objects}
 use Rattle.tree.specs.Questions.{is-some, is-file, dir-at, taken, has-child, climbs, new-body}
 
 abbrev pub Changed : Type 0

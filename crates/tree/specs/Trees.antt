@@ -8,7 +8,7 @@
 --     without x l           l without the object of number x
 --     change x g l          l with g of the object of number x in its place
 --     keep p l, some-of p l     those that pass the test p, in order; whether one does
-use mathlib.Core.Bool.{Bool, true, false, not, _||_, cond}
+use mathlib.Core.Bool.{Bool, false, not, _||_, cond}
 use mathlib.Core.List.{List, [], _∷_, _++_, map}
 use Prim.Native.Nat.{ℕ, suc, _≤_}
 use lib.Dec.{eqb, ltb}

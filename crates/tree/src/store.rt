@@ -46,7 +46,14 @@ pub trait Store {
         ensures { λ r. ⌜ (now (buffer .exit), r) ≡ read (tree (now (self .entry))) (number .0) (now (buffer .entry)) ⌝ };
 
     // A new directory, or an empty file.
-    fn add(&mut self, kind: Kind, parent: Number, name: &[u8], number: Number, stamp: Stamp) -> Result<(), Refusal>
+    fn add(
+        &mut self,
+        kind: Kind,
+        parent: Number,
+        name: &[u8],
+        number: Number,
+        stamp: Stamp,
+    ) -> Result<(), Refusal>
         ensures { λ r. ⌜ (tree (now (self .exit)), r) ≡ added (tree (now (self .entry))) kind (parent .0) (now (name .entry)) (number .0) stamp ⌝ };
 
     // New contents and stamp for a file.

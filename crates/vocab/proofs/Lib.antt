@@ -1,3 +1,4 @@
 pub mod Laid
 pub mod Naming
 pub mod Judging
+pub mod Numbering

@@ -6,8 +6,8 @@
 use mathlib.Core.List.{List}
 use Prim.Native.Nat.{ℕ}
 use lib.ListN.{take}
+use Rattle.std.specs.Options.{mapped}
 use Rattle.std.specs.declared.option.Option.{Option}
-use Rattle.std.specs.declared.option.Option.the-variants.{Some, None}
 use Rattle.vocab.specs.declared.bytes.Bytes.{Bytes}
 use Rattle.vocab.specs.declared.name.Name.{Name}
 use Rattle.vocab.specs.declared.number.Number.{Number}
@@ -22,9 +22,7 @@ abbrev pub contentsOf : Bytes 256 → List ℕ
 contentsOf c = bytesOf c
 
 abbrev pub numbered : Option ℕ → Option Number
-numbered None = None
-numbered (Some x) = Some (record { 0 = x })
+numbered n = mapped (λ x. record { 0 = x }) n
 
 abbrev pub values : Option Number → Option ℕ
-values None = None
-values (Some n) = Some (n .0)
+values n = mapped (λ x. x .0) n

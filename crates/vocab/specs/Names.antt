@@ -2,7 +2,7 @@
 --     valid-name n        1 to 24 bytes, each from 33 to 126, and none of them 47, the slash
 --     name-or-none n      a valid name, or the root's empty one
 --     same-name m n       whether two names are the same, byte by byte
-use mathlib.Core.Bool.{Bool, true, false, not, _&&_, _||_}
+use mathlib.Core.Bool.{Bool, true, not, _&&_, _||_}
 use mathlib.Core.List.{List, [], _∷_}
 use Prim.Native.Nat.{ℕ}
 use lib.Dec.{eqb, leb}

@@ -32,7 +32,10 @@ impl<const N: usize> Bytes<N> {
     pub fn empty() -> Bytes<N>
         ensures { λ r. ⌜ take (r .len) (r .held) ≡ [] ⌝ }
     {
-        Bytes { len: 0, held: [0; N] }
+        Bytes {
+            len: 0,
+            held: [0; N],
+        }
     }
 
     pub fn as_slice(&self) -> &[u8]

@@ -7,5 +7,8 @@ pub struct Stamp {
 
 impl Stamp {
     // The root's stamp.
-    pub const NONE: Stamp = Stamp { author: 0, serial: 0 };
+    pub const NONE: Stamp = Stamp {
+        author: 0,
+        serial: 0,
+    };
 }

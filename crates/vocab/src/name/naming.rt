@@ -47,7 +47,9 @@ impl Name {
     pub fn none() -> Name
         ensures { λ r. ⌜ nameOf r ≡ [] ⌝ }
     {
-        Name { text: Bytes::empty() }
+        Name {
+            text: Bytes::empty(),
+        }
     }
 
     pub fn as_bytes(&self) -> &[u8]

@@ -1,5 +1,5 @@
 use mathlib.Core.Path.{sym, ap, _∙_}
-use Rattle.rows.specs.declared.row.Row.the-variants.{Free, Used}
+use Rattle.rows.specs.declared.row.Row.the-variants.{Free}
 use Rattle.rows.specs.Rows.{on}
 use Rattle.std.proofs.shelf.Lists.{getD-default}
 use Rattle.rows.proofs.Searching.{nowhere-more, nowhere-all, first-here}
@@ -13,8 +13,8 @@ loop-i-again g c =
     let more = nowhere-more (on p) (c .args .rows .now) i (c .index-rows-i .result) (c .loop-i-test .taken) (c .loop-i .inv) in
     let read = ap (on p) (sym (c .index-rows-i .is)) in
     elim (c .match-row .came) [
-      in-Used·else-test w ↦ more (read ∙ ap (on p) (w .in-Used .is) ∙ sym (w .test .ensures) ∙ w .if-test .left)
-    | in-Free w ↦ more (read ∙ ap (on p) (w .in-Free .is))
+      | in-Used·else-test w ↦ more (read ∙ ap (on p) (w .in-Used .is) ∙ sym (w .test .ensures) ∙ w .if-test .left)
+      | in-Free w ↦ more (read ∙ ap (on p) (w .in-Free .is))
     ]
 
 pub returns-then-test : need.returns-then-test

@@ -1,6 +1,6 @@
 use mathlib.Core.Path.{refl, sym, ap}
 use native.Mathlib.Omega.{arith}
-use Rattle.stack.specs.Stacks.{stacked, places, popped}
+use Rattle.stack.specs.Stacks.{places, popped}
 use Rattle.stack.proofs.Ends.{reverse-less}
 use Rattle.stack.proofs.Stack.pop.Needs as need
 

@@ -3,7 +3,7 @@ use mathlib.Core.List.{reverse}
 use native.Mathlib.Omega.{arith}
 use lib.ListN.{length, take, length-set}
 use Rattle.std.specs.declared.result.Result.the-variants.{Ok}
-use Rattle.stack.specs.Stacks.{stacked, places}
+use Rattle.stack.specs.Stacks.{places}
 use Rattle.stack.proofs.Ends.{reverse-more, reverse-take}
 use Rattle.stack.proofs.Pushing.{pushed-fits, pushed-full}
 use Rattle.stack.proofs.Stack.push.Needs as need

@@ -1,7 +1,5 @@
-use mathlib.Core.Path.{_≡_, sym, subst}
-use Prim.Native.Nat.{_<_, min}
+use mathlib.Core.Path.{sym, subst}
 use native.Mathlib.Omega.{arith}
-use lib.ListN.{length}
 use Rattle.std.specs.Of.Vec.{vec-items}
 use Rattle.rows.specs.Rows.{free, FirstAt, Nowhere}
 use Rattle.rows.proofs.Holding.{rows-full}

@@ -1,6 +1,5 @@
 use mathlib.Core.Path.{sym, ap, _∙_}
 use Rattle.std.specs.Of.Vec.{vec-items}
-use Rattle.vocab.specs.Buffers.{copied}
 use Rattle.tree.specs.Questions.{held}
 use Rattle.tree.proofs.Answering.{read-absent, read-file}
 use Rattle.rows.specs.Rows.{treeIn}

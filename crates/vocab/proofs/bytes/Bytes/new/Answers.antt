@@ -1,5 +1,4 @@
-use mathlib.Core.Path.{_≡_, ap, sym, _∙_}
-use Prim.Native.Nat.{_<_, _≤_}
+use mathlib.Core.Path.{_≡_, ap, _∙_}
 use native.Mathlib.Omega.{arith}
 use lib.ListN.{length, set, take, drop, getD}
 use Rattle.vocab.proofs.Laid.{laid, laid-more, laid-front, laid-rest}

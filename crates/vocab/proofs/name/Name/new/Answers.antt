@@ -1,4 +1,4 @@
-use mathlib.Core.Path.{_≡_, refl, sym, ap, _∙_}
+use mathlib.Core.Path.{sym, ap, _∙_}
 use native.Mathlib.Omega.{arith}
 use Rattle.vocab.specs.Names.{name-or-none}
 use Rattle.vocab.proofs.Naming.{named, valid-short}
