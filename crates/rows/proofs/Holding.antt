@@ -13,7 +13,7 @@ use Rattle.std.specs.declared.option.Option.the-variants.{Some, None}
 use Rattle.std.proofs.shelf.Lists.{take-more}
 use Rattle.std.proofs.shelf.Tests.{both-ways, or-from, or-left, or-right, eqb-true, eqb-false, ne-eqb, cases-eq, cond-true, cond-false}
 use Rattle.tree.specs.Changes.{cleared}
-use Rattle.tree.specs.Law.{Lawful, empty}
+use Rattle.tree.specs.Law.{Lawful}
 use Rattle.tree.specs.Questions.{child, child-of, dir-at, directory, is-dir, is-some, smaller}
 use Rattle.tree.specs.Trees.{Ascends, Object, at, change, change-one, insert, is, some-of, without}
 use Rattle.tree.proofs.Ascending.{ascends-uninsert, at-insert-other, at-insert-own, change-none, without-none}
@@ -24,7 +24,7 @@ use Rattle.rows.specs.declared.row.Entry.{Entry}
 use Rattle.rows.specs.declared.row.Row.{Row}
 use Rattle.rows.specs.declared.row.Row.the-variants.{Free, Used}
 use Rattle.rows.specs.declared.search.Place.{Place}
-use Rattle.rows.specs.Rows.{FirstAt, Found, Nowhere, Searched, free, objectOf, objectsIn, on, treeIn}
+use Rattle.rows.specs.Rows.{FirstAt, Found, Nowhere, Searched, capacityOf, free, objectOf, objectsIn, on, treeIn}
 
 pub split-rows : (rows : List Row) → Split (objectsIn rows)
 split-rows [] = λ n. refl
@@ -156,17 +156,11 @@ rows-freed (Free ∷ rows) = rows-freed rows
 rows-freed (Used e ∷ rows) = ap (insert (objectOf e)) (rows-freed rows)
 
 -- ---- rows that hold nothing
-pub rows-empty : (rows : List Row) (n : ℕ) → length rows ≡ n → objectsIn rows ≡ [] → treeIn rows 2 ≡ empty (min n 4096)
-rows-empty rows n l e = λ i. record { capacity = min (l i) 4096; next = 2; objects = e i }
-
-pub rows-empty-lawful : (rows : List Row) → objectsIn rows ≡ [] → Lawful (treeIn rows 2)
-rows-empty-lawful rows e = subst Lawful (sym (rows-empty rows (length rows) refl e)) (bare-lawful (min (length rows) 4096) 2 (omega arith) (omega arith))
-
 pub rows-cleared : (old rows : List Row) (n : ℕ) → length rows ≡ length old → objectsIn rows ≡ [] → treeIn rows n ≡ cleared (treeIn old n)
 rows-cleared old rows n l e = λ i. record { capacity = min (l i) 4096; next = n; objects = e i }
 
-pub rows-cleared-lawful : (old rows : List Row) (n : ℕ) → objectsIn rows ≡ [] → Lawful (treeIn old n) → Lawful (treeIn rows n)
-rows-cleared-lawful old rows n e w = subst Lawful (sym (rows-cleared rows rows n refl e)) (bare-lawful (min (length rows) 4096) n (w .next-low) (w .next-high))
+pub rows-cleared-lawful : (rows : List Row) (n : ℕ) → objectsIn rows ≡ [] → 2 ≤ n → n ≤ 2 ^ 31 → Lawful (treeIn rows n)
+rows-cleared-lawful rows n e low high = subst Lawful (sym (rows-cleared rows rows n refl e)) (bare-lawful (capacityOf rows) n low high)
 
 pub rows-next-lawful : (rows : List Row) (m n : ℕ) → Lawful (treeIn rows m) → m ≤ n → n ≤ 2 ^ 31 → Lawful (treeIn rows n)
 rows-next-lawful rows m n w low high = record { next-low = omega (arith, w .next-low); next-high = high; ascending = w .ascending; each = w .each; names = w .names; room = w .room }

@@ -1,7 +1,8 @@
 -- What rows of memory stand for. Assumes nothing.
 --     objectOf e         the object that an entry holds
 --     objectsIn rows     the objects of the rows, by number
---     treeIn rows n      the tree of a table of these rows and next number n: at most 4,096 of them are used
+--     capacityOf rows    how many of the rows can be used: all, but at most 4,096
+--     treeIn rows n      the tree that the rows stand for, with next number n
 --     on p r             whether the row r holds an object that passes the test p
 --     free r             whether it holds none
 --     FirstAt p rows i   the test p passes at i, and at no place before it
@@ -35,8 +36,11 @@ objectsIn [] = []
 objectsIn (Free ∷ rows) = objectsIn rows
 objectsIn (Used e ∷ rows) = insert (objectOf e) (objectsIn rows)
 
+abbrev pub capacityOf : List Row → ℕ
+capacityOf rows = min (length rows) 4096
+
 abbrev pub treeIn : List Row → ℕ → Tree
-treeIn rows n = record { capacity = min (length rows) 4096; next = n; objects = objectsIn rows }
+treeIn rows n = record { capacity = capacityOf rows; next = n; objects = objectsIn rows }
 
 abbrev pub on : (Object → Bool) → Row → Bool
 on p Free = false

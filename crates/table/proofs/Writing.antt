@@ -6,12 +6,18 @@ use Prim.Native.Nat.{ℕ, zero, suc, min, _+_, _-_, _^_, _≤_, _<_}
 use native.Mathlib.Omega.{arith}
 use lib.Dec.{eqb}
 use lib.ListN.{length, getD, set, length-set}
-use Rattle.std.specs.Of.Vec.{vec-items}
 use Rattle.std.specs.Options.{mapped}
 use Rattle.std.specs.declared.option.Option.{Option}
 use Rattle.std.specs.declared.option.Option.the-variants.{Some, None}
 use Rattle.std.specs.declared.result.Result.the-variants.{Ok}
 use Rattle.std.proofs.shelf.Tests.{ne-eqb, cond-false}
+use Rattle.rows.specs.declared.row.Entry.{Entry}
+use Rattle.rows.specs.declared.row.Row.{Row}
+use Rattle.rows.specs.declared.row.Row.the-variants.{Free, Used}
+use Rattle.rows.specs.declared.search.Place.{Place}
+use Rattle.rows.specs.Rows.{FirstAt, Found, Searched, bodyOf, capacityOf, free, objectOf, objectsIn, treeIn}
+use Rattle.rows.proofs.Holding.{at-found, at-searched, nowhere-at, rows-add, rows-change, rows-drop, some-nowhere, split-rows}
+use Rattle.rows.proofs.Searching.{found-passes}
 use Rattle.tree.specs.Changes.{Changed, added, dropped, fresh, moved, put, with-contents, with-place}
 use Rattle.tree.specs.Law.{Lawful, Stamp-fits}
 use Rattle.tree.specs.Questions.{bare, climbs, dir-at, directory, has-child, is-file, is-some, look, new-body, placed, shown, taken}
@@ -31,16 +37,10 @@ use Rattle.vocab.specs.declared.number.Number.{Number}
 use Rattle.vocab.specs.declared.stamp.Stamp.{Stamp}
 use Rattle.vocab.specs.Meaning.{contentsOf, nameOf}
 use Rattle.vocab.specs.Names.{valid-name}
+use Rattle.table.specs.declared.Table.{Table}
+use Rattle.table.specs.Tables.{rowsOf, treeOf}
 use Rattle.rows.specs.declared.row.Body.{Body as BodyRow}
 use Rattle.rows.specs.declared.row.Body.the-variants.{File}
-use Rattle.rows.specs.declared.row.Entry.{Entry}
-use Rattle.rows.specs.declared.row.Row.{Row}
-use Rattle.rows.specs.declared.row.Row.the-variants.{Free, Used}
-use Rattle.rows.specs.declared.search.Place.{Place}
-use Rattle.table.specs.declared.Table.{Table}
-use Rattle.rows.specs.Rows.{FirstAt, Found, Searched, bodyOf, free, objectOf, objectsIn, treeIn}
-use Rattle.rows.proofs.Holding.{at-found, at-searched, nowhere-at, rows-add, rows-change, rows-drop, some-nowhere, split-rows}
-use Rattle.rows.proofs.Searching.{found-passes}
 
 -- a row is written, as an accepted change c of the tree asks
 pub record Written (rows : List Row) (next count i : ℕ) (r : Row) (c : Changed) : Type 0 where
@@ -90,15 +90,15 @@ shown-searched x rows r w ne = cond-false (eqb x 1) _ _ (ne-eqb x 1 ne) ∙ ap (
 -- ---- what each change of a table writes
 module _ (self : Table) where
   abbrev rows : List Row
-  rows = vec-items (self .rows)
+  rows = rowsOf self
 
   abbrev tree : Tree
-  tree = treeIn rows (self .next .0)
+  tree = treeOf self
 
-  abbrev law : Lawful tree
+  pub law : Lawful tree
   law = untold tree (self .lawful)
 
-  pub add-written : (k : Kind) (p : Number) (n : List ℕ) (x : Number) (s : Stamp) (i : ℕ) (name : Name) (body : BodyRow) → (valid-name n ≡ true) × (nameOf name ≡ n) → 2 ≤ x .0 → is-some (at (x .0) (objectsIn rows)) ≡ false → dir-at (p .0) (objectsIn rows) ≡ true → taken (p .0) n (objectsIn rows) ≡ false → self .count < min (length rows) 4096 → bodyOf body ≡ new-body k → FirstAt free rows i → x .0 < 2 ^ 32 → Stamp-fits s → Written rows (self .next .0) (self .count + 1) i (Used (record { number = x; parent = p; name = name; stamp = s; body = body })) (added tree k (p .0) n (x .0) s)
+  pub add-written : (k : Kind) (p : Number) (n : List ℕ) (x : Number) (s : Stamp) (i : ℕ) (name : Name) (body : BodyRow) → (valid-name n ≡ true) × (nameOf name ≡ n) → 2 ≤ x .0 → is-some (at (x .0) (objectsIn rows)) ≡ false → dir-at (p .0) (objectsIn rows) ≡ true → taken (p .0) n (objectsIn rows) ≡ false → self .count < capacityOf rows → bodyOf body ≡ new-body k → FirstAt free rows i → x .0 < 2 ^ 32 → Stamp-fits s → Written rows (self .next .0) (self .count + 1) i (Used (record { number = x; parent = p; name = name; stamp = s; body = body })) (added tree k (p .0) n (x .0) s)
   add-written k p n x s i name body valid low new home place room kind there high fits =
       let o = fresh k (p .0) n (x .0) s in
       let e : Entry = record { number = x; parent = p; name = name; stamp = s; body = body } in
@@ -120,7 +120,7 @@ module _ (self : Table) where
       (λ j. record { number = o .number; parent = o .parent; name = o .name; stamp = s; body = file (held .1 j) })
       (put-done tree x bytes s (found .0) (held .0)) (put-lawful tree law x bytes s fits)
 
-  pub move-written : (x : ℕ) (q : Number) (m : List ℕ) (f : Place) (name : Name) → (valid-name m ≡ true) × (nameOf name ≡ m) → Found (is x) rows f → dir-at (q .0) (objectsIn rows) ≡ true → taken (q .0) m (objectsIn rows) ≡ false → climbs (min (length rows) 4096) x (q .0) (objectsIn rows) ≡ false → Written rows (self .next .0) (self .count) (f .index) (Used (record { number = f .entry .number; parent = q; name = name; stamp = f .entry .stamp; body = f .entry .body })) (moved tree x (q .0) m)
+  pub move-written : (x : ℕ) (q : Number) (m : List ℕ) (f : Place) (name : Name) → (valid-name m ≡ true) × (nameOf name ≡ m) → Found (is x) rows f → dir-at (q .0) (objectsIn rows) ≡ true → taken (q .0) m (objectsIn rows) ≡ false → climbs (capacityOf rows) x (q .0) (objectsIn rows) ≡ false → Written rows (self .next .0) (self .count) (f .index) (Used (record { number = f .entry .number; parent = q; name = name; stamp = f .entry .stamp; body = f .entry .body })) (moved tree x (q .0) m)
   move-written x q m f name valid found home place apart =
       let o = objectOf (f .entry) in
       change-written x f found (with-place (q .0) m) (λ u. refl) _ (moved tree x (q .0) m)

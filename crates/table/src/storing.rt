@@ -1,13 +1,11 @@
 // A table as a store.
 ghost use mathlib.Core.Path.{_≡_};
 ghost use mathlib.Core.Bool.{true, false};
-ghost use Prim.Native.Nat.{min};
-ghost use lib.ListN.{length};
-ghost use Rattle.std.specs.Of.Vec.{vec-items};
 ghost use Rattle.std.specs.Options.{Cases as BySome, isSome};
 ghost use Rattle.tree.specs.Trees.{is as has-number, at};
 ghost use Rattle.tree.specs.Questions.{placed, is-some, is-file, dir-at, taken, has-child, climbs};
-ghost use Rattle.rows.specs.Rows.{objectsIn, treeIn, Found, Searched};
+ghost use Rattle.rows.specs.Rows.{capacityOf, objectsIn, Found, Searched};
+ghost use Rattle.table.specs.Tables.{rowsOf, treeOf};
 use crate::Table;
 use rows::freeing::free_all;
 use rows::row::Body;
@@ -39,26 +37,26 @@ const MOST_OBJECTS: usize = 4096;
 
 impl Table {
     fn room(&self) -> usize
-        ensures { λ r. ⌜ r ≡ min (length (vec-items (now (self .entry) .rows))) 4096 ⌝ }
+        ensures { λ r. ⌜ r ≡ capacityOf (rowsOf (now (self .entry))) ⌝ }
     {
         self.rows.len().min(MOST_OBJECTS)
     }
 
     fn find(&self, number: Number) -> Option<Place>
-        ensures place { λ r. ⌜ Searched (has-number (number .0)) (vec-items (now (self .entry) .rows)) r ⌝ }
-        ensures held { λ r. ⌜ isSome r ≡ is-some (at (number .0) (objectsIn (vec-items (now (self .entry) .rows)))) ⌝ }
+        ensures place { λ r. ⌜ Searched (has-number (number .0)) (rowsOf (now (self .entry))) r ⌝ }
+        ensures held { λ r. ⌜ isSome r ≡ is-some (at (number .0) (objectsIn (rowsOf (now (self .entry))))) ⌝ }
     {
         first(&self.rows, &HasNumber(number))
     }
 
     fn find_named(&self, parent: Number, name: &[u8]) -> Option<Place>
-        ensures { λ r. ⌜ Searched (placed (parent .0) (now (name .entry))) (vec-items (now (self .entry) .rows)) r ⌝ }
+        ensures { λ r. ⌜ Searched (placed (parent .0) (now (name .entry))) (rowsOf (now (self .entry))) r ⌝ }
     {
         first(&self.rows, &HasPlace { parent, name })
     }
 
     fn find_file(&self, number: Number) -> Option<Place>
-        ensures { λ r. ⌜ BySome r (is-file (at (number .0) (objectsIn (vec-items (now (self .entry) .rows)))) ≡ false) (λ f. (is-file (at (number .0) (objectsIn (vec-items (now (self .entry) .rows)))) ≡ true) × Found (has-number (number .0)) (vec-items (now (self .entry) .rows)) f) ⌝ }
+        ensures { λ r. ⌜ BySome r (is-file (at (number .0) (objectsIn (rowsOf (now (self .entry))))) ≡ false) (λ f. (is-file (at (number .0) (objectsIn (rowsOf (now (self .entry))))) ≡ true) × Found (has-number (number .0)) (rowsOf (now (self .entry))) f) ⌝ }
     {
         let place = self.find(number)?;
         if place.entry.is_directory() {
@@ -69,13 +67,13 @@ impl Table {
     }
 
     fn holds(&self, number: Number) -> bool
-        ensures { λ r. ⌜ r ≡ is-some (at (number .0) (objectsIn (vec-items (now (self .entry) .rows)))) ⌝ }
+        ensures { λ r. ⌜ r ≡ is-some (at (number .0) (objectsIn (rowsOf (now (self .entry))))) ⌝ }
     {
         self.find(number).is_some()
     }
 
     fn has_directory(&self, number: Number) -> bool
-        ensures { λ r. ⌜ r ≡ dir-at (number .0) (objectsIn (vec-items (now (self .entry) .rows))) ⌝ }
+        ensures { λ r. ⌜ r ≡ dir-at (number .0) (objectsIn (rowsOf (now (self .entry)))) ⌝ }
     {
         if number.0 == 1 {
             return true;
@@ -87,20 +85,20 @@ impl Table {
     }
 
     fn has_name(&self, parent: Number, name: &[u8]) -> bool
-        ensures { λ r. ⌜ r ≡ taken (parent .0) (now (name .entry)) (objectsIn (vec-items (now (self .entry) .rows))) ⌝ }
+        ensures { λ r. ⌜ r ≡ taken (parent .0) (now (name .entry)) (objectsIn (rowsOf (now (self .entry)))) ⌝ }
     {
         self.find_named(parent, name).is_some()
     }
 
     fn has_children(&self, number: Number) -> bool
-        ensures { λ r. ⌜ r ≡ has-child (number .0) (objectsIn (vec-items (now (self .entry) .rows))) ⌝ }
+        ensures { λ r. ⌜ r ≡ has-child (number .0) (objectsIn (rowsOf (now (self .entry)))) ⌝ }
     {
         first(&self.rows, &HasParent(number)).is_some()
     }
 
     // Whether `number` is `from` or stands above it.
     fn encloses(&self, number: Number, from: Number) -> bool
-        ensures { λ r. ⌜ r ≡ climbs (min (length (vec-items (now (self .entry) .rows))) 4096) (number .0) (from .0) (objectsIn (vec-items (now (self .entry) .rows))) ⌝ }
+        ensures { λ r. ⌜ r ≡ climbs (capacityOf (rowsOf (now (self .entry)))) (number .0) (from .0) (objectsIn (rowsOf (now (self .entry)))) ⌝ }
     {
         let mut here = from;
         for i in 0..self.room() {
@@ -117,7 +115,7 @@ impl Table {
 }
 
 pub impl Store for Table as TableStore {
-    ghost tree = { λ s. treeIn (vec-items (s .rows)) (s .next .0) };
+    ghost tree = { treeOf };
 
     ghost lawful = { λ s. s .lawful };
 

@@ -1,6 +1,6 @@
 use mathlib.Core.Path.{sym, subst}
 use native.Mathlib.Omega.{arith}
-use Rattle.std.specs.Of.Vec.{vec-items}
+use Rattle.table.specs.Tables.{rowsOf}
 use Rattle.rows.specs.Rows.{free, FirstAt, Nowhere}
 use Rattle.rows.proofs.Holding.{rows-full}
 use Rattle.table.proofs.Writing.{add-written}
@@ -9,7 +9,7 @@ use Rattle.table.proofs.storing.TableStore.add.Needs as need
 pub returns-in-rest : need.returns-in-rest
 returns-in-rest c =
     let self = c .args .self .now in
-    let full = rows-full (vec-items (self .rows)) (subst (Nowhere free) (c .deref .ensures .value) (c .in-rest .ensures tt)) in
+    let full = rows-full (rowsOf self) (subst (Nowhere free) (c .deref .ensures .value) (c .in-rest .ensures tt)) in
     absurd (omega (arith, c .if-self-room .left, c .room .ensures, self .counted))
 
 pub ghost-self : need.ghost-self
