@@ -4,7 +4,7 @@ ghost use mathlib.Core.Bool.{true, false};
 ghost use Rattle.std.specs.Options.{Cases as BySome, isSome};
 ghost use Rattle.tree.specs.Trees.{is as has-number, at};
 ghost use Rattle.tree.specs.Questions.{placed, is-some, is-file, dir-at, taken, has-child, climbs};
-ghost use Rattle.rows.specs.Rows.{capacityOf, objectsIn, Found, Searched};
+ghost use Rattle.rows.specs.Rows.{Found, Searched};
 ghost use Rattle.table.specs.Tables.{rowsOf, treeOf};
 use crate::Table;
 use rows::freeing::free_all;
@@ -37,14 +37,14 @@ const MOST_OBJECTS: usize = 4096;
 
 impl Table {
     fn room(&self) -> usize
-        ensures { λ r. ⌜ r ≡ capacityOf (rowsOf (now (self .entry))) ⌝ }
+        ensures { λ r. ⌜ r ≡ treeOf (now (self .entry)) .capacity ⌝ }
     {
         self.rows.len().min(MOST_OBJECTS)
     }
 
     fn find(&self, number: Number) -> Option<Place>
         ensures place { λ r. ⌜ Searched (has-number (number .0)) (rowsOf (now (self .entry))) r ⌝ }
-        ensures held { λ r. ⌜ isSome r ≡ is-some (at (number .0) (objectsIn (rowsOf (now (self .entry))))) ⌝ }
+        ensures held { λ r. ⌜ isSome r ≡ is-some (at (number .0) (treeOf (now (self .entry)) .objects)) ⌝ }
     {
         first(&self.rows, &HasNumber(number))
     }
@@ -56,7 +56,7 @@ impl Table {
     }
 
     fn find_file(&self, number: Number) -> Option<Place>
-        ensures { λ r. ⌜ BySome r (is-file (at (number .0) (objectsIn (rowsOf (now (self .entry))))) ≡ false) (λ f. (is-file (at (number .0) (objectsIn (rowsOf (now (self .entry))))) ≡ true) × Found (has-number (number .0)) (rowsOf (now (self .entry))) f) ⌝ }
+        ensures { λ r. ⌜ BySome r (is-file (at (number .0) (treeOf (now (self .entry)) .objects)) ≡ false) (λ f. (is-file (at (number .0) (treeOf (now (self .entry)) .objects)) ≡ true) × Found (has-number (number .0)) (rowsOf (now (self .entry))) f) ⌝ }
     {
         let place = self.find(number)?;
         if place.entry.is_directory() {
@@ -67,13 +67,13 @@ impl Table {
     }
 
     fn holds(&self, number: Number) -> bool
-        ensures { λ r. ⌜ r ≡ is-some (at (number .0) (objectsIn (rowsOf (now (self .entry))))) ⌝ }
+        ensures { λ r. ⌜ r ≡ is-some (at (number .0) (treeOf (now (self .entry)) .objects)) ⌝ }
     {
         self.find(number).is_some()
     }
 
     fn has_directory(&self, number: Number) -> bool
-        ensures { λ r. ⌜ r ≡ dir-at (number .0) (objectsIn (rowsOf (now (self .entry)))) ⌝ }
+        ensures { λ r. ⌜ r ≡ dir-at (number .0) (treeOf (now (self .entry)) .objects) ⌝ }
     {
         if number.0 == 1 {
             return true;
@@ -85,20 +85,20 @@ impl Table {
     }
 
     fn has_name(&self, parent: Number, name: &[u8]) -> bool
-        ensures { λ r. ⌜ r ≡ taken (parent .0) (now (name .entry)) (objectsIn (rowsOf (now (self .entry)))) ⌝ }
+        ensures { λ r. ⌜ r ≡ taken (parent .0) (now (name .entry)) (treeOf (now (self .entry)) .objects) ⌝ }
     {
         self.find_named(parent, name).is_some()
     }
 
     fn has_children(&self, number: Number) -> bool
-        ensures { λ r. ⌜ r ≡ has-child (number .0) (objectsIn (rowsOf (now (self .entry)))) ⌝ }
+        ensures { λ r. ⌜ r ≡ has-child (number .0) (treeOf (now (self .entry)) .objects) ⌝ }
     {
         first(&self.rows, &HasParent(number)).is_some()
     }
 
     // Whether `number` is `from` or stands above it.
     fn encloses(&self, number: Number, from: Number) -> bool
-        ensures { λ r. ⌜ r ≡ climbs (capacityOf (rowsOf (now (self .entry)))) (number .0) (from .0) (objectsIn (rowsOf (now (self .entry)))) ⌝ }
+        ensures { λ r. ⌜ r ≡ climbs (treeOf (now (self .entry)) .capacity) (number .0) (from .0) (treeOf (now (self .entry)) .objects) ⌝ }
     {
         let mut here = from;
         for i in 0..self.room() {
