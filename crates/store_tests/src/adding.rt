@@ -1,4 +1,5 @@
 // Adding objects.
+#[cfg(test)]
 use crate::change::Change;
 use crate::expect::has_children;
 use crate::expect::makes;

@@ -1,4 +1,5 @@
 // Questions to a planted store.
+#[cfg(test)]
 use crate::change::Change;
 use crate::change::STAMP;
 use crate::expect::has_children;

@@ -1,4 +1,5 @@
 // Changes of a store as values, for tables of cases.
+#[cfg(test)]
 use tree::store::Store;
 use vocab::kind::Kind;
 use vocab::number::Number;

@@ -1,4 +1,5 @@
 // Dropping objects, in a planted store.
+#[cfg(test)]
 use crate::change::Change;
 use crate::expect::has_children;
 use crate::expect::makes;

@@ -1,4 +1,5 @@
 // What a test expects of a store: that it makes changes, or refuses them and stays as it was.
+#[cfg(test)]
 use crate::change::Change;
 use crate::change::ChangeDebug;
 use std::test::*;

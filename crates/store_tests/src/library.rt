@@ -1,4 +1,5 @@
 // The library that most tests start from.
+#[cfg(test)]
 use crate::change::Change;
 use crate::expect::makes;
 use std::test::*;

@@ -1,4 +1,5 @@
 // Listing any store.
+#[cfg(test)]
 use crate::change::Change;
 use crate::expect::makes;
 use crate::expect::refused;

@@ -1,4 +1,5 @@
 // Moving objects, in a planted store.
+#[cfg(test)]
 use crate::change::Change;
 use crate::change::STAMP;
 use crate::expect::has_children;

@@ -1,4 +1,5 @@
 // The next number, and clearing a store.
+#[cfg(test)]
 use crate::change::Change;
 use crate::expect::has_children;
 use crate::expect::makes;

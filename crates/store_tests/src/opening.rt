@@ -1,4 +1,5 @@
 // How many objects a table takes, and what becomes of its rows.
+#[cfg(test)]
 use crate::expect::refused;
 use crate::library::plant;
 use rows::row::Row;

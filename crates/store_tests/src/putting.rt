@@ -1,4 +1,5 @@
 // New contents for files, in a planted store.
+#[cfg(test)]
 use crate::change::Change;
 use crate::change::STAMP;
 use crate::expect::holds;

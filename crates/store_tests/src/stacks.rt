@@ -1,4 +1,5 @@
 // The stack, over elements of two types.
+#[cfg(test)]
 use crate::expect::refused;
 use stack::Stack;
 use std::test::*;

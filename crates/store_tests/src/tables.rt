@@ -1,4 +1,5 @@
 // The tests of stores, on tables.
+#[cfg(test)]
 use crate::adding;
 use crate::asking;
 use crate::dropping;

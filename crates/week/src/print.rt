@@ -1,49 +1,44 @@
-// What is printed: steps with their answers, and trees.
-use crate::step::Step;
-use crate::step::StepDisplay;
-use listing::Listing;
-use stack::Stack;
+// What is printed: the answer of a step, and an object of a tree.
 use std::fmt;
-use std::io;
 use tree::store::Store;
 use vocab::kind::Kind;
 use vocab::number::Number;
 use vocab::refusal::Refusal;
 use vocab::status::Status;
 
-pub fn step(rt: &LibcRuntime, step: &Step, answer: Result<Number, Refusal>) -> io::Result<()> {
-    match answer {
-        Ok(Number(number)) => println!(rt, "{step}: ok {number}"),
-        Err(refusal) => println!(rt, "{step}: {}", No(refusal)),
-    }
-}
+#[derive(Clone, Copy)]
+pub struct Answer(pub Result<Number, Refusal>);
 
-// Each object, followed by all beneath it: number, parent, kind, name, author and serial of its stamp, and length.
-pub fn tree<S: Store>(rt: &LibcRuntime, store: &S) -> io::Result<()> {
-    let count = store.count();
-    let next = store.next_number().0;
-    println!(rt, "{count} objects, next number {next}")?;
-    let mut list = vec![in rt.alloc(); Number(0); count]?;
-    let mut path = Stack::new(&mut list);
-    let mut listing = match Listing::new(store, &mut path) {
-        Ok(listing) => listing,
-        Err(refusal) => return println!(rt, "{}", No(refusal)),
-    };
-    for _ in 0..count {
-        if let Some(number) = listing.next() {
-            object(rt, store, number)?;
+pub impl fmt::Display for Answer as AnswerDisplay {
+    fn fmt<W: fmt::Write>(&self, f: &mut fmt::Formatter<W>) -> fmt::Result {
+        match self.0 {
+            Ok(Number(number)) => write!(f, "ok {number}"),
+            Err(refusal) => {
+                let number = refusal as u8;
+                write!(f, "no {number}")
+            }
         }
     }
-    Ok(())
 }
 
-fn object<S: Store>(rt: &LibcRuntime, store: &S, number: Number) -> io::Result<()> {
-    let Some(status) = store.object(number) else {
-        return Ok(());
-    };
-    let indent = Indent(depth(store, &status));
-    let len = length(store, number);
-    println!(rt, "{indent}{} {len}", Line(status))
+// Number, parent, kind, name, author and serial of the stamp, and length; indented by the directories around it.
+#[derive(Drop)]
+pub struct Shown<'a, S> {
+    pub store: &'a S,
+    pub number: Number,
+}
+
+pub impl<S: Store> fmt::Display for Shown<'_, S> as ShownDisplay {
+    fn fmt<W: fmt::Write>(&self, f: &mut fmt::Formatter<W>) -> fmt::Result {
+        let Some(status) = self.store.object(self.number) else {
+            return Ok(());
+        };
+        for _ in 0..depth(self.store, &status) {
+            f.write_str("  ")?;
+        }
+        let len = length(self.store, self.number);
+        write!(f, "{} {len}", Line(status))
+    }
 }
 
 // How many directories stand between an object and the root.
@@ -65,28 +60,6 @@ fn length<S: Store>(store: &S, number: Number) -> usize {
     match store.contents(number, &mut buffer) {
         Ok(len) => len,
         Err(_) => 0,
-    }
-}
-
-#[derive(Clone, Copy)]
-struct No(Refusal);
-
-impl fmt::Display for No as NoDisplay {
-    fn fmt<W: fmt::Write>(&self, f: &mut fmt::Formatter<W>) -> fmt::Result {
-        let number = self.0 as u8;
-        write!(f, "no {number}")
-    }
-}
-
-#[derive(Clone, Copy)]
-struct Indent(usize);
-
-impl fmt::Display for Indent as IndentDisplay {
-    fn fmt<W: fmt::Write>(&self, f: &mut fmt::Formatter<W>) -> fmt::Result {
-        for _ in 0..self.0 {
-            f.write_str("  ")?;
-        }
-        Ok(())
     }
 }
 

@@ -1,9 +1,5 @@
 // One step of the office's work, by paths from the root.
-use crate::office::Office;
 use std::fmt;
-use tree::store::Store;
-use vocab::number::Number;
-use vocab::refusal::Refusal;
 
 #[derive(Clone, Copy)]
 pub enum Step<'a> {
@@ -13,20 +9,6 @@ pub enum Step<'a> {
     Remove(&'a str),
     Rmdir(&'a str),
     Rename(&'a str, &'a str),
-}
-
-impl Step<'_> {
-    // Gives the number of the object.
-    pub fn take<S: Store>(&self, office: &mut Office<S>) -> Result<Number, Refusal> {
-        match *self {
-            Step::Mkdir(path) => office.mkdir(path),
-            Step::Create(path) => office.create(path),
-            Step::Store(path, contents) => office.store(path, contents.as_bytes()),
-            Step::Remove(path) => office.remove(path),
-            Step::Rmdir(path) => office.rmdir(path),
-            Step::Rename(from, to) => office.rename(from, to),
-        }
-    }
 }
 
 pub impl fmt::Display for Step<'_> as StepDisplay {
