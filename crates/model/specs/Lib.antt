@@ -1,0 +1,5 @@
+pub mod Records
+pub mod Applying
+pub mod Cancelling
+pub mod Replaying
+pub mod Theorems

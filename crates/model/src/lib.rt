@@ -1,0 +1,2 @@
+// What records, cancelling and replay mean, and what is proved of them.
+pub mod laws;
