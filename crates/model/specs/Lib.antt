@@ -2,4 +2,5 @@ pub mod Records
 pub mod Applying
 pub mod Cancelling
 pub mod Replaying
+pub mod Cases
 pub mod Theorems
