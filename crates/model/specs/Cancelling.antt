@@ -7,7 +7,7 @@
 --     erase-object x rs      rs without the records of x
 --     named-by-other x rs    whether a record of another object names x as parent or new parent
 --     entered n rs r         the log rs of such a spell after r is entered: what stands behind an erased record moves up
-use mathlib.Core.Bool.{Bool, true, false, not, _&&_, _||_, cond}
+use mathlib.Core.Bool.{Bool, not, _&&_, cond}
 use mathlib.Core.List.{List, [], _∷_, _++_}
 use Prim.Native.Nat.{ℕ, _+_, _^_}
 use lib.Dec.{eqb, leb, ltb}

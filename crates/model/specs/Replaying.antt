@@ -6,7 +6,7 @@
 --     replayed b n rs t  the records rs applied in order; the clash is the first that fails
 --     replay n rs t      the same from t's own next number, which is then raised by n
 use mathlib.Core.Bool.{cond}
-use mathlib.Core.List.{List, [], _∷_, map}
+use mathlib.Core.List.{List, [], _∷_}
 use Prim.Native.Nat.{ℕ, _+_, _-_}
 use Rattle.std.specs.declared.result.Result.{Result}
 use Rattle.std.specs.declared.result.Result.the-variants.{Ok, Err}

@@ -133,22 +133,10 @@ module _ (x n : ℕ) where
       ap (insert (objectOf d)) (rows-drop rows i (rest d rows s) (h .1)) ∙ sym (without-insert x (objectOf d) (objectsIn rows) (h .0))
 
 -- ---- how many
-pub rows-count : (rows : List Row) → length (objectsIn rows) ≤ length rows
-rows-count [] = omega arith
-rows-count (Free ∷ rows) = let ih = rows-count rows in omega arith
-rows-count (Used e ∷ rows) = let ih = rows-count rows in omega (arith, length-insert (objectOf e) (objectsIn rows))
-
 pub rows-full : (rows : List Row) → Nowhere free rows → length (objectsIn rows) ≡ length rows
 rows-full [] h = refl
 rows-full (Free ∷ rows) h = absurd (both-ways true (h .0) refl)
 rows-full (Used e ∷ rows) h = let ih = rows-full rows (h .1) in omega (arith, length-insert (objectOf e) (objectsIn rows))
-
-pub rows-free : (rows : List Row) (i : ℕ) → FirstAt free rows i → length (objectsIn rows) < length rows
-rows-free [] i h = absurd h
-rows-free (Free ∷ rows) zero h = omega (arith, rows-count rows)
-rows-free (Used e ∷ rows) zero h = absurd (both-ways false refl h)
-rows-free (Free ∷ rows) (suc i) h = omega (arith, rows-count rows)
-rows-free (Used e ∷ rows) (suc i) h = let ih = rows-free rows i (h .1) in omega (arith, length-insert (objectOf e) (objectsIn rows))
 
 pub rows-freed : (rows : List Row) → objectsIn (rows ++ Free ∷ []) ≡ objectsIn rows
 rows-freed [] = refl

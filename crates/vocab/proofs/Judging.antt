@@ -1,24 +1,19 @@
 -- Laws of `judge`. Assumes nothing.
 use mathlib.Core.Path.{_≡_, refl, _∙_}
 use mathlib.Core.Bool.{Bool, true, false, cond}
-use mathlib.Core.List.{List, [], _∷_, _++_}
+use mathlib.Core.List.{List, [], _∷_}
+use Prim.Native.Nat.{ℕ}
+use native.Mathlib.Omega.{arith}
 use Rattle.std.specs.declared.result.Result.{Result}
 use Rattle.std.specs.declared.result.Result.the-variants.{Ok, Err}
-use Rattle.std.proofs.shelf.Tests.{cond-true, cond-false}
-use native.Mathlib.Omega.{arith}
-use Prim.Native.Nat.{ℕ}
+use Rattle.std.proofs.shelf.Tests.{cond-true}
 use Rattle.vocab.specs.declared.refusal.Refusal.{Refusal}
-use Rattle.vocab.specs.Checks.{Check, judge, Holds}
+use Rattle.vocab.specs.Checks.{Check, Holds, judge}
 
 module _ {S A : Type 0} where
   pub judge-passes : (cs : List Check) (s : S) (e : S × A) → Holds cs → judge cs s e ≡ (e .0, Ok (e .1))
   judge-passes [] s e h = refl
   judge-passes (c ∷ cs) s e h = cond-true (c .holds) _ _ (h .0) ∙ judge-passes cs s e (h .1)
-
-  -- the first check that fails gives its refusal
-  pub judge-fails : (cs : List Check) (c : Check) (ds : List Check) (s : S) (e : S × A) → Holds cs → c .holds ≡ false → judge (cs ++ (c ∷ ds)) s e ≡ (s, Err (c .else))
-  judge-fails [] c ds s e h f = cond-false (c .holds) _ _ f
-  judge-fails (b ∷ cs) c ds s e h f = cond-true (b .holds) _ _ (h .0) ∙ judge-fails cs c ds s e (h .1) f
 
   -- what holds before, and after where the checks hold, holds of what a call leaves
   pub judge-keeps : (P : S → Type 0) (cs : List Check) (s : S) (e : S × A) → P s → (Holds cs → P (e .0)) → P (judge cs s e .0)
