@@ -20,6 +20,7 @@ use Rattle.vocab.specs.declared.kind.Kind.the-variants.{Directory, File}
 use Rattle.vocab.specs.declared.refusal.Refusal.the-variants.{BadName, NumberInUse, NoSuchDirectory, NameTaken, StoreFull, NoSuchObject, ContentsTooLong, HasChildren, BeneathItself, PlaceDiffers, StampDiffers}
 use Rattle.vocab.specs.declared.stamp.Stamp.{Stamp}
 use Rattle.vocab.specs.Checks.{Check, check}
+use Rattle.vocab.specs.Limits.{longest-contents}
 use Rattle.vocab.specs.Names.{valid-name}
 use Rattle.tree.specs.Changes.{Changed, added, dropped, fresh, moved, put, with-contents, with-place}
 use Rattle.tree.specs.Questions.{climbs, dir-at, has-child, is-dir, is-file, is-some, placed, taken}
@@ -90,7 +91,7 @@ applied r t = first-check (own-checks (r .edit) t) t (asked (stamp-of r) (r .edi
 abbrev pub store-checks : Edit → Tree → List Check
 store-checks (mkdir x p n) t = check (valid-name n) BadName ∷ check (leb 2 x && not (is-some (at x (t .objects)))) NumberInUse ∷ []
 store-checks (create x p n) t = check (valid-name n) BadName ∷ check (leb 2 x && not (is-some (at x (t .objects)))) NumberInUse ∷ []
-store-checks (store x c e) t = check (leb (length c) 256) ContentsTooLong ∷ []
+store-checks (store x c e) t = check (leb (length c) longest-contents) ContentsTooLong ∷ []
 store-checks (remove x p n e) t = check (not (has-child x (t .objects))) HasChildren ∷ []
 store-checks (rmdir x p n) t = []
 store-checks (rename x p n q m) t = check (valid-name m) BadName ∷ []

@@ -1,5 +1,4 @@
 -- What a record cancels in a log as it is entered. Assumes nothing.
---     temporary              the first temporary number, 2^31
 --     born n x               whether x was made in a spell that has given out n numbers
 --     stored-before x rs     the stamp that the first store of x in rs expects, or none
 --     expecting e d          the edit e, expecting d where that is a stamp
@@ -9,16 +8,14 @@
 --     entered n rs r         the log rs of such a spell after r is entered: what stands behind an erased record moves up
 use mathlib.Core.Bool.{Bool, not, _&&_, cond}
 use mathlib.Core.List.{List, [], _∷_, _++_}
-use Prim.Native.Nat.{ℕ, _+_, _^_}
+use Prim.Native.Nat.{ℕ, _+_}
 use lib.Dec.{eqb, leb, ltb}
 use Rattle.std.specs.declared.option.Option.{Option}
 use Rattle.std.specs.declared.option.Option.the-variants.{Some, None}
 use Rattle.vocab.specs.declared.stamp.Stamp.{Stamp}
+use Rattle.vocab.specs.Limits.{temporary}
 use Rattle.tree.specs.Trees.{keep, some-of}
 use Rattle.model.specs.Records.{Edit, mkdir, create, store, remove, rmdir, rename, Record, object, stores, names, expectation, with-edit}
-
-abbrev pub temporary : ℕ
-temporary = 2 ^ 31
 
 abbrev pub born : ℕ → ℕ → Bool
 born n x = leb temporary x && ltb x (temporary + n)

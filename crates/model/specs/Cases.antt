@@ -9,10 +9,11 @@ use lib.ListN.{length}
 use Rattle.std.specs.declared.result.Result.the-variants.{Ok, Err}
 use Rattle.vocab.specs.declared.refusal.Refusal.the-variants.{NameTaken, StampDiffers}
 use Rattle.vocab.specs.declared.stamp.Stamp.{Stamp}
+use Rattle.vocab.specs.Limits.{temporary}
 use Rattle.tree.specs.Changes.{with-next}
 use Rattle.tree.specs.Trees.{Tree, file}
 use Rattle.model.specs.Records.{Edit, mkdir, create, store, remove, rmdir, rename, Record}
-use Rattle.model.specs.Cancelling.{temporary, entered}
+use Rattle.model.specs.Cancelling.{entered}
 use Rattle.model.specs.Replaying.{replay}
 
 abbrev pub stamp : ℕ → ℕ → Stamp

@@ -11,11 +11,12 @@ use Prim.Native.Nat.{ℕ, _+_, _-_}
 use Rattle.std.specs.declared.result.Result.{Result}
 use Rattle.std.specs.declared.result.Result.the-variants.{Ok, Err}
 use Rattle.vocab.specs.declared.refusal.Refusal.{Refusal}
+use Rattle.vocab.specs.Limits.{temporary}
 use Rattle.tree.specs.Changes.{with-next}
 use Rattle.tree.specs.Trees.{Tree}
 use Rattle.model.specs.Records.{Edit, mkdir, create, store, remove, rmdir, rename, Record, with-edit}
 use Rattle.model.specs.Applying.{applied}
-use Rattle.model.specs.Cancelling.{temporary, born}
+use Rattle.model.specs.Cancelling.{born}
 
 abbrev pub settle : ℕ → ℕ → ℕ → ℕ
 settle b n x = cond (born n x) (b + (x - temporary)) x

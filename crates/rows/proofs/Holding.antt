@@ -3,7 +3,7 @@ use mathlib.Core.Path.{_≡_, refl, sym, ap, subst, _∙_}
 use mathlib.Core.Bool.{Bool, true, false, not, _&&_, _||_, cond}
 use mathlib.Core.List.{List, [], _∷_, _++_}
 use mathlib.Core.Logic.{⊎-elim}
-use Prim.Native.Nat.{ℕ, zero, suc, min, _+_, _^_, _≤_, _<_}
+use Prim.Native.Nat.{ℕ, zero, suc, min, _+_, _≤_, _<_}
 use native.Mathlib.Omega.{arith}
 use lib.Dec.{ltb}
 use lib.ListN.{length, getD, set, take}
@@ -12,6 +12,7 @@ use Rattle.std.specs.declared.option.Option.{Option}
 use Rattle.std.specs.declared.option.Option.the-variants.{Some, None}
 use Rattle.std.proofs.shelf.Lists.{take-more}
 use Rattle.std.proofs.shelf.Tests.{both-ways, or-from, or-left, or-right, eqb-true, eqb-false, ne-eqb, cases-eq, cond-true, cond-false}
+use Rattle.vocab.specs.Limits.{temporary}
 use Rattle.tree.specs.Changes.{cleared}
 use Rattle.tree.specs.Law.{Lawful}
 use Rattle.tree.specs.Questions.{child, child-of, dir-at, directory, is-dir, is-some, smaller}
@@ -147,10 +148,10 @@ rows-freed (Used e ∷ rows) = ap (insert (objectOf e)) (rows-freed rows)
 pub rows-cleared : (old rows : List Row) (n : ℕ) → length rows ≡ length old → objectsIn rows ≡ [] → treeIn rows n ≡ cleared (treeIn old n)
 rows-cleared old rows n l e = λ i. record { capacity = min (l i) 4096; next = n; objects = e i }
 
-pub rows-cleared-lawful : (rows : List Row) (n : ℕ) → objectsIn rows ≡ [] → 2 ≤ n → n ≤ 2 ^ 31 → Lawful (treeIn rows n)
+pub rows-cleared-lawful : (rows : List Row) (n : ℕ) → objectsIn rows ≡ [] → 2 ≤ n → n ≤ temporary → Lawful (treeIn rows n)
 rows-cleared-lawful rows n e low high = subst Lawful (sym (rows-cleared rows rows n refl e)) (bare-lawful (capacityOf rows) n low high)
 
-pub rows-next-lawful : (rows : List Row) (m n : ℕ) → Lawful (treeIn rows m) → m ≤ n → n ≤ 2 ^ 31 → Lawful (treeIn rows n)
+pub rows-next-lawful : (rows : List Row) (m n : ℕ) → Lawful (treeIn rows m) → m ≤ n → n ≤ temporary → Lawful (treeIn rows n)
 rows-next-lawful rows m n w low high = record { next-low = omega (arith, w .next-low); next-high = high; ascending = w .ascending; each = w .each; names = w .names; room = w .room }
 
 -- ---- one row more

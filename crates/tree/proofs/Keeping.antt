@@ -12,6 +12,7 @@ use Rattle.std.specs.declared.option.Option.{Option}
 use Rattle.std.specs.declared.option.Option.the-variants.{Some, None}
 use Rattle.std.proofs.shelf.Tests.{both-ways, or-cases, or-left, or-right, and-parts, eqb-false, ne-eqb, cases-eq, ltb-true, leb-true, cases-bool, not-true}
 use Rattle.std.proofs.shelf.Ways.{tells}
+use Rattle.vocab.specs.Limits.{temporary}
 use Rattle.vocab.specs.declared.kind.Kind.{Kind}
 use Rattle.vocab.specs.declared.kind.Kind.the-variants.{Directory, File}
 use Rattle.vocab.specs.declared.refusal.Refusal.the-variants.{NextOutOfRange}
@@ -250,13 +251,13 @@ module _ (t : Tree) (w : Lawful t) where
 
   pub next-lawful : (n : ℕ) → Lawful (next-set t n .0)
   next-lawful n =
-      judge-keeps Lawful (check (leb (t .next) n && leb n (2 ^ 31)) NextOutOfRange ∷ []) t (with-next t n, tt) w
+      judge-keeps Lawful (check (leb (t .next) n && leb n temporary) NextOutOfRange ∷ []) t (with-next t n, tt) w
       (λ h.
-      let a = and-parts (leb (t .next) n) (leb n (2 ^ 31)) (h .0) in
-      record { next-low = omega (arith, w .next-low, leb-true (t .next) n (a .0)); next-high = leb-true n (2 ^ 31) (a .1); ascending = w .ascending; each = w .each; names = w .names; room = w .room })
+      let a = and-parts (leb (t .next) n) (leb n temporary) (h .0) in
+      record { next-low = omega (arith, w .next-low, leb-true (t .next) n (a .0)); next-high = leb-true n temporary (a .1); ascending = w .ascending; each = w .each; names = w .names; room = w .room })
 
 -- a tree of no objects
-pub bare-lawful : (cap n : ℕ) → 2 ≤ n → n ≤ 2 ^ 31 → Lawful (record { capacity = cap; next = n; objects = [] })
+pub bare-lawful : (cap n : ℕ) → 2 ≤ n → n ≤ temporary → Lawful (record { capacity = cap; next = n; objects = [] })
 bare-lawful cap n low high = record {
   next-low = low;
   next-high = high;

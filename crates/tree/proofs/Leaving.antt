@@ -2,9 +2,10 @@
 use mathlib.Core.Path.{_≡_, refl, sym}
 use mathlib.Core.Bool.{false, _&&_}
 use mathlib.Core.List.{List, [], _∷_}
-use Prim.Native.Nat.{ℕ, _^_}
+use Prim.Native.Nat.{ℕ}
 use lib.Dec.{eqb, leb}
 use Rattle.std.proofs.shelf.Tests.{eqb-false}
+use Rattle.vocab.specs.Limits.{temporary}
 use Rattle.vocab.specs.declared.kind.Kind.{Kind}
 use Rattle.vocab.specs.declared.refusal.Refusal.the-variants.{NextOutOfRange}
 use Rattle.vocab.specs.declared.stamp.Stamp.{Stamp}
@@ -38,4 +39,4 @@ pub moved-rest : (t : Tree) (x q : ℕ) (m : List ℕ) → But-for x t (moved t 
 moved-rest t x q m = but-for x t (move-checks t x q m) (change x (with-place q m) (t .objects)) (at-other x (with-place q m) (λ o. refl) (t .objects))
 
 pub next-rest : (t : Tree) (n : ℕ) → (next-set t n .0 .capacity ≡ t .capacity) × (next-set t n .0 .objects ≡ t .objects)
-next-rest t n = judge-keeps (λ u. (u .capacity ≡ t .capacity) × (u .objects ≡ t .objects)) (check (leb (t .next) n && leb n (2 ^ 31)) NextOutOfRange ∷ []) t (with-next t n, tt) (refl, refl) (λ _. (refl, refl))
+next-rest t n = judge-keeps (λ u. (u .capacity ≡ t .capacity) × (u .objects ≡ t .objects)) (check (leb (t .next) n && leb n temporary) NextOutOfRange ∷ []) t (with-next t n, tt) (refl, refl) (λ _. (refl, refl))

@@ -8,6 +8,7 @@ use denote.Struct.Props.{props}
 use std.HLevel.{Π-prop}
 use lib.ListN.{length}
 use Rattle.std.specs.declared.option.Option.the-variants.{Some}
+use Rattle.vocab.specs.Limits.{temporary}
 use Rattle.vocab.specs.Names.{valid-name}
 use Rattle.tree.specs.Law.{Lawful, Lawful-object, Stamp-fits}
 use Rattle.tree.specs.Questions.{climbs, contents, dir-at, placed}
@@ -30,7 +31,7 @@ fine-prop cap l o p q =
 lawful-prop : (t : Tree) → IsProp (Lawful t)
 lawful-prop t p q =
     let a : IsProp (2 ≤ t .next) = search props in
-    let b : IsProp (t .next ≤ 2 ^ 31) = search props in
+    let b : IsProp (t .next ≤ temporary) = search props in
     let d : IsProp ((x : ℕ) (o : Object) → at x (t .objects) ≡ Some o → Lawful-object (t .capacity) (t .objects) o) = Π-prop (λ x. Π-prop (λ o. Π-prop (λ _. fine-prop (t .capacity) (t .objects) o))) in
     let e : IsProp ((x y : ℕ) (o p : Object) → at x (t .objects) ≡ Some o → at y (t .objects) ≡ Some p → placed (o .parent) (o .name) p ≡ true → x ≡ y) = Π-prop (λ x. Π-prop (λ y. Π-prop (λ o. Π-prop (λ p. Π-prop (λ _. Π-prop (λ _. Π-prop (λ _. search props))))))) in
     let f : IsProp (length (t .objects) ≤ t .capacity) = search props in

@@ -8,7 +8,7 @@
 -- Each but the last gives the tree after, and the answer.
 use mathlib.Core.Bool.{not, _&&_}
 use mathlib.Core.List.{List, [], _∷_}
-use Prim.Native.Nat.{ℕ, _^_}
+use Prim.Native.Nat.{ℕ}
 use lib.Dec.{leb, ltb}
 use lib.ListN.{length}
 use Rattle.std.specs.declared.result.Result.{Result}
@@ -17,6 +17,7 @@ use Rattle.vocab.specs.declared.stamp.Stamp.{Stamp}
 use Rattle.vocab.specs.declared.refusal.Refusal.{Refusal}
 use Rattle.vocab.specs.declared.refusal.Refusal.the-variants.{BadName, NumberInUse, NoSuchDirectory, NameTaken, StoreFull, NoSuchObject, ContentsTooLong, HasChildren, BeneathItself, NextOutOfRange}
 use Rattle.vocab.specs.Checks.{Check, check, judge}
+use Rattle.vocab.specs.Limits.{longest-contents, temporary}
 use Rattle.vocab.specs.Names.{valid-name}
 use Rattle.tree.specs.Trees.{file, Object, Tree, at, insert, without, change, with-objects}
 use Rattle.tree.specs.Questions.{is-some, is-file, dir-at, taken, has-child, climbs, new-body}
@@ -52,7 +53,7 @@ with-contents c s o = record { number = o .number; parent = o .parent; name = o 
 abbrev pub put-checks : Tree → ℕ → List ℕ → List Check
 put-checks t x c =
     check (is-file (at x (t .objects))) NoSuchObject
-    ∷ check (leb (length c) 256) ContentsTooLong
+    ∷ check (leb (length c) longest-contents) ContentsTooLong
     ∷ []
 
 abbrev pub put : Tree → ℕ → List ℕ → Stamp → Changed
@@ -92,7 +93,7 @@ abbrev pub with-next : Tree → ℕ → Tree
 with-next t n = record { capacity = t .capacity; next = n; objects = t .objects }
 
 abbrev pub next-set : Tree → ℕ → Changed
-next-set t n = judge (check (leb (t .next) n && leb n (2 ^ 31)) NextOutOfRange ∷ []) t (with-next t n, tt)
+next-set t n = judge (check (leb (t .next) n && leb n temporary) NextOutOfRange ∷ []) t (with-next t n, tt)
 
 abbrev pub cleared : Tree → Tree
 cleared t = with-objects t []

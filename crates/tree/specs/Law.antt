@@ -10,6 +10,7 @@ use Prim.Native.Nat.{ℕ, _^_, _≤_, _<_}
 use lib.ListN.{length}
 use Rattle.std.specs.declared.option.Option.the-variants.{Some}
 use Rattle.vocab.specs.declared.stamp.Stamp.{Stamp}
+use Rattle.vocab.specs.Limits.{longest-contents, temporary}
 use Rattle.vocab.specs.Names.{valid-name}
 use Rattle.tree.specs.Trees.{Object, Tree, Ascends, at}
 use Rattle.tree.specs.Questions.{contents, placed, dir-at, climbs}
@@ -21,13 +22,13 @@ pub record Lawful-object (cap : ℕ) (l : List Object) (o : Object) : Type 0 whe
   pub number : o .number < 2 ^ 32
   pub name : valid-name (o .name) ≡ true
   pub stamp : Stamp-fits (o .stamp)
-  pub short : length (contents o) ≤ 256
+  pub short : length (contents o) ≤ longest-contents
   pub home : dir-at (o .parent) l ≡ true
   pub rooted : climbs cap 1 (o .parent) l ≡ true
 
 pub record Lawful (t : Tree) : Type 0 where
   pub next-low : 2 ≤ t .next
-  pub next-high : t .next ≤ 2 ^ 31
+  pub next-high : t .next ≤ temporary
   pub ascending : Ascends 2 (t .objects)
   pub each : (x : ℕ) (o : Object) → at x (t .objects) ≡ Some o → Lawful-object (t .capacity) (t .objects) o
   pub names : (x y : ℕ) (o p : Object) → at x (t .objects) ≡ Some o → at y (t .objects) ≡ Some p → placed (o .parent) (o .name) p ≡ true → x ≡ y

@@ -19,6 +19,7 @@ use Rattle.std.specs.Orderings.{Decides}
 use Rattle.std.specs.declared.option.Option.{Option}
 use Rattle.std.specs.declared.option.Option.the-variants.{Some, None}
 use Rattle.std.specs.declared.result.Result.the-variants.{Ok, Err}
+use Rattle.vocab.specs.Limits.{temporary}
 use Rattle.vocab.specs.declared.kind.Kind.{Kind}
 use Rattle.vocab.specs.declared.refusal.Refusal.{Refusal}
 use Rattle.vocab.specs.declared.stamp.Stamp.{Stamp}
@@ -95,7 +96,7 @@ pub record Lawful-object-by-any-way (l : List Object) (o : Object) : Type 0 wher
 
 pub record Lawful-by-any-way (t : Tree) : Type 0 where
   pub next-low : 2 ≤ t .next
-  pub next-high : t .next ≤ 2 ^ 31
+  pub next-high : t .next ≤ temporary
   pub ascending : Ascends 2 (t .objects)
   pub each : (x : ℕ) (o : Object) → at x (t .objects) ≡ Some o → Lawful-object-by-any-way (t .objects) o
   pub names : (x y : ℕ) (o p : Object) → at x (t .objects) ≡ Some o → at y (t .objects) ≡ Some p → placed (o .parent) (o .name) p ≡ true → x ≡ y

@@ -8,6 +8,7 @@ use Prim.Native.Nat.{ℕ}
 use lib.ListN.{take}
 use Rattle.std.specs.Options.{mapped}
 use Rattle.std.specs.declared.option.Option.{Option}
+use Rattle.vocab.specs.Limits.{longest-contents}
 use Rattle.vocab.specs.declared.bytes.Bytes.{Bytes}
 use Rattle.vocab.specs.declared.name.Name.{Name}
 use Rattle.vocab.specs.declared.number.Number.{Number}
@@ -18,7 +19,7 @@ bytesOf b = take (b .len) (b .held)
 abbrev pub nameOf : Name → List ℕ
 nameOf n = bytesOf (n .text)
 
-abbrev pub contentsOf : Bytes 256 → List ℕ
+abbrev pub contentsOf : Bytes longest-contents → List ℕ
 contentsOf c = bytesOf c
 
 abbrev pub numbered : Option ℕ → Option Number

@@ -8,6 +8,7 @@ use Prim.Native.Nat.{ℕ}
 use lib.Dec.{eqb, leb}
 use lib.ListN.{length}
 use Rattle.std.specs.shelf.Text.{sameBytes}
+use Rattle.vocab.specs.Limits.{longest-name}
 
 abbrev pub every : (ℕ → Bool) → List ℕ → Bool
 every p [] = true
@@ -17,7 +18,7 @@ abbrev pub name-byte : ℕ → Bool
 name-byte b = leb 33 b && (leb b 126 && not (eqb b 47))
 
 unfoldable pub valid-name : List ℕ → Bool
-valid-name n = leb 1 (length n) && (leb (length n) 24 && every name-byte n)
+valid-name n = leb 1 (length n) && (leb (length n) longest-name && every name-byte n)
 
 unfoldable pub name-or-none : List ℕ → Bool
 name-or-none n = eqb (length n) 0 || valid-name n

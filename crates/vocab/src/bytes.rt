@@ -46,5 +46,7 @@ impl<const N: usize> Bytes<N> {
     }
 }
 
+pub const LONGEST_CONTENTS: usize = 256;
+
 // What a file holds.
-pub type Contents = Bytes<256>;
+pub type Contents = Bytes<LONGEST_CONTENTS>;

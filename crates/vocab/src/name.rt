@@ -5,9 +5,11 @@ ghost use lib.ListN.{take};
 ghost use Rattle.vocab.specs.Names.{name-or-none};
 use crate::bytes::Bytes;
 
+pub const LONGEST_NAME: usize = 24;
+
 #[derive(Clone, Copy)]
 pub struct Name {
-    text: Bytes<24>,
+    text: Bytes<LONGEST_NAME>,
     ghost sound: { name-or-none (take (text .len) (text .held)) ≡ true },
 }
 

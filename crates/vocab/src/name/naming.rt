@@ -7,6 +7,7 @@ ghost use Rattle.vocab.specs.Names.{name-byte, valid-name, same-name};
 ghost use Rattle.vocab.specs.Meaning.{nameOf};
 ghost use Rattle.vocab.specs.declared.refusal.Refusal.the-variants.{BadName};
 use crate::bytes::Bytes;
+use crate::name::LONGEST_NAME;
 use crate::name::Name;
 use crate::refusal::Refusal;
 
@@ -19,7 +20,7 @@ fn is_name_byte(b: u8) -> bool
 fn is_valid(name: &[u8]) -> bool
     ensures { λ r. ⌜ r ≡ valid-name (now (name .entry)) ⌝ }
 {
-    if name.len() < 1 || name.len() > 24 {
+    if name.len() < 1 || name.len() > LONGEST_NAME {
         return false;
     }
     for b in name {

@@ -1,7 +1,7 @@
 use mathlib.Core.Bool.{_&&_}
 use mathlib.Core.List.{[], _∷_}
-use Prim.Native.Nat.{_^_}
 use lib.Dec.{leb}
+use Rattle.vocab.specs.Limits.{temporary}
 use Rattle.vocab.specs.declared.refusal.Refusal.the-variants.{NextOutOfRange}
 use Rattle.vocab.specs.Checks.{check}
 use Rattle.vocab.proofs.Judging.{judge-refuses}
@@ -15,5 +15,5 @@ returns c = record {
   puts = λ t x b s. judge-refuses (put-checks t x b) t (with-objects t (change x (with-contents b s) (t .objects)), tt);
   drops = λ t x. judge-refuses (drop-checks t x) t (with-objects t (without x (t .objects)), tt);
   moves = λ t x q m. judge-refuses (move-checks t x q m) t (with-objects t (change x (with-place q m) (t .objects)), tt);
-  next = λ t n. judge-refuses (check (leb (t .next) n && leb n (2 ^ 31)) NextOutOfRange ∷ []) t (with-next t n, tt);
+  next = λ t n. judge-refuses (check (leb (t .next) n && leb n temporary) NextOutOfRange ∷ []) t (with-next t n, tt);
 }
