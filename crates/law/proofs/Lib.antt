@@ -1,0 +1,12 @@
+pub mod Runs
+pub mod Entering
+pub mod Erase
+pub mod Delay
+pub mod OneStep
+pub mod Settle
+pub mod Lonely
+pub mod Knowing
+pub mod Landing
+pub mod Sound
+pub mod Lost
+pub mod Growing
