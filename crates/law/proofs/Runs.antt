@@ -4,27 +4,23 @@
 --     Passes cap rs l    each record of rs passes in turn
 --     final rs l         the objects after
 use mathlib.Core.Path.{_≡_, refl, sym, ap, _∙_}
-use mathlib.Core.Bool.{Bool, true, false, not, _&&_}
 use mathlib.Core.List.{List, [], _∷_, map}
 use Prim.Native.Nat.{ℕ}
 use native.Mathlib.Omega.{arith}
-use lib.Dec.{leb, ltb}
-use lib.ListN.{length}
-use Rattle.std.specs.declared.option.Option.{Option}
-use Rattle.std.specs.declared.option.Option.the-variants.{Some, None}
 use Rattle.std.specs.declared.result.Result.{Result}
 use Rattle.std.specs.declared.result.Result.the-variants.{Ok, Err}
-use Rattle.model.specs.Applying.{all-checks, applied, effect, first-check, stamped, stands}
+use Rattle.model.specs.Applying.{all-checks, applied, effect}
+use Rattle.model.specs.Cases.{a, b}
 use Rattle.model.specs.Records.{Edit, Record, create, mkdir, remove, rename, rmdir, stamp-of, store}
 use Rattle.model.specs.Replaying.{Outcome, replayed, settled, settled-edit}
+use Rattle.model.proofs.Ordering.{applied-in-order}
 use Rattle.tree.specs.Changes.{Changed}
-use Rattle.tree.specs.Questions.{climbs, dir-at, has-child, is-dir, is-file, is-some, taken}
-use Rattle.tree.specs.Trees.{Object, Tree, at, with-objects}
-use Rattle.tree.proofs.Changed.{file-some}
+use Rattle.tree.specs.Trees.{Object, Tree, with-objects}
 use Rattle.vocab.specs.declared.refusal.Refusal.{Refusal}
 use Rattle.vocab.specs.declared.stamp.Stamp.{Stamp}
-use Rattle.vocab.specs.Checks.{Check, Holds, check, judge}
-use Rattle.vocab.specs.Names.{valid-name}
+use Rattle.vocab.specs.Checks.{Check, Holds, judge}
+use Rattle.vocab.proofs.Judging.{judge-accepts, judge-passes}
+use Rattle.law.specs.Spells.{logged}
 
 abbrev pub rec : Stamp → Edit → Record
 rec s e = record { author = s .author; serial = s .serial; edit = e }
@@ -40,76 +36,28 @@ abbrev pub final : List Record → List Object → List Object
 final [] l = l
 final (r ∷ rs) l = final rs (effect (stamp-of r) (r .edit) l)
 
--- ---- a record's own checks and what the store refuses after them, as one list
-
-module _ (t : Tree) (k : Tree × Unit {0}) where
-  new-order : (A B C D E : Refusal) (a b c d e : Bool) → first-check (check a A ∷ check b B ∷ check c C ∷ []) t (judge (check d D ∷ check e E ∷ check a A ∷ check b B ∷ check c C ∷ []) t k) ≡ judge (check a A ∷ check b B ∷ check c C ∷ check d D ∷ check e E ∷ []) t k
-  new-order A B C D E true true true d e = refl
-  new-order A B C D E true true false d e = refl
-  new-order A B C D E true false c d e = refl
-  new-order A B C D E false b c d e = refl
-
-  store-order : (A B C : Refusal) (a b c : Bool) → first-check (check a A ∷ check b B ∷ []) t (judge (check a A ∷ check c C ∷ []) t k) ≡ judge (check a A ∷ check b B ∷ check c C ∷ []) t k
-  store-order A B C true true c = refl
-  store-order A B C true false c = refl
-  store-order A B C false b c = refl
-
-  remove-order : (A B C D E : Refusal) (a b c d i : Bool) → (a ≡ true → i ≡ true) → first-check (check a A ∷ check b B ∷ check c C ∷ []) t (judge (check i E ∷ check d D ∷ []) t k) ≡ judge (check a A ∷ check b B ∷ check c C ∷ check d D ∷ []) t k
-  remove-order A B C D E true true true d i h = rw (h refl)
-  remove-order A B C D E true true false d i h = refl
-  remove-order A B C D E true false c d i h = refl
-  remove-order A B C D E false b c d i h = refl
-
-  rmdir-order : (A B C E : Refusal) (a b c i : Bool) → (a ≡ true → i ≡ true) → first-check (check a A ∷ check b B ∷ check c C ∷ []) t (judge (check i E ∷ check c C ∷ []) t k) ≡ judge (check a A ∷ check b B ∷ check c C ∷ []) t k
-  rmdir-order A B C E true true true i h = rw (h refl)
-  rmdir-order A B C E true true false i h = refl
-  rmdir-order A B C E true false c i h = refl
-  rmdir-order A B C E false b c i h = refl
-
-  rename-order : (A B C D E F : Refusal) (a b c d e f : Bool) → first-check (check a A ∷ check b B ∷ check c C ∷ check d D ∷ check e E ∷ []) t (judge (check f F ∷ check a A ∷ check c C ∷ check d D ∷ check e E ∷ []) t k) ≡ judge (check a A ∷ check b B ∷ check c C ∷ check d D ∷ check e E ∷ check f F ∷ []) t k
-  rename-order A B C D E F true true true true true f = refl
-  rename-order A B C D E F true true true true false f = refl
-  rename-order A B C D E F true true true false e f = refl
-  rename-order A B C D E F true true false d e f = refl
-  rename-order A B C D E F true false c d e f = refl
-  rename-order A B C D E F false b c d e f = refl
-
--- where all hold, and where the answer is that they do
-judge-holds : {S A : Type 0} (cs : List Check) (s : S) (e : S × A) → Holds cs → judge cs s e ≡ (e .0, Ok (e .1))
-judge-holds [] s e h = refl
-judge-holds (c ∷ cs) s e h = rw (h .0) (judge-holds cs s e (h .1))
-
 never : {A B : Type 0} (a : A) (b : B) → Err b ≡ Ok a → ⊥
 never a b e = let z : _≡_ {A = ℕ} 0 1 = cc in omega arith
 
-holds-judge : {S A : Type 0} (cs : List Check) (s : S) (e : S × A) (a : A) → judge cs s e .1 ≡ Ok a → Holds cs
-holds-judge [] s e a h = tt
-holds-judge (c ∷ cs) s e a h = go (holds-judge cs s e a) (c .holds) refl
-  where
-    go : (judge cs s e .1 ≡ Ok a → Holds cs) → (b : Bool) → c .holds ≡ b → Holds (c ∷ cs)
-    go ih true f = (f, ih (rw f at h))
-    go ih false f = absurd (never a (c .else) (rw f at h))
+-- the checks do not read the next number
+tests-of : (e : Edit) (t : Tree) → all-checks e t ≡ tests (t .capacity) e (t .objects)
+tests-of (mkdir x p n) t = refl
+tests-of (create x p n) t = refl
+tests-of (store x c e) t = refl
+tests-of (remove x p n e) t = refl
+tests-of (rmdir x p n) t = refl
+tests-of (rename x p n q m) t = refl
 
-module _ (t : Tree) (s : Stamp) where
-  in-order : (e : Edit) → applied (rec s e) t ≡ judge (tests (t .capacity) e (t .objects)) t (with-objects t (effect s e (t .objects)), tt)
-  in-order (mkdir x p n) = new-order t _ _ _ _ _ _ (dir-at p (t .objects)) (not (taken p n (t .objects))) (ltb (length (t .objects)) (t .capacity)) (valid-name n) (leb 2 x && not (is-some (at x (t .objects))))
-  in-order (create x p n) = new-order t _ _ _ _ _ _ (dir-at p (t .objects)) (not (taken p n (t .objects))) (ltb (length (t .objects)) (t .capacity)) (valid-name n) (leb 2 x && not (is-some (at x (t .objects))))
-  in-order (store x c e) = store-order t _ _ _ _ (is-file (at x (t .objects))) (stamped e (at x (t .objects))) (leb (length c) 256)
-  in-order (remove x p n e) = remove-order t _ _ _ _ _ _ (is-file (at x (t .objects))) (stands p n (at x (t .objects))) (stamped e (at x (t .objects))) (not (has-child x (t .objects))) (is-some (at x (t .objects))) (file-some (at x (t .objects)))
-  in-order (rmdir x p n) = rmdir-order t _ _ _ _ _ (is-dir (at x (t .objects))) (stands p n (at x (t .objects))) (not (has-child x (t .objects))) (is-some (at x (t .objects))) (dir-is (at x (t .objects)))
-    where
-      dir-is : (r : Option Object) → is-dir r ≡ true → is-some r ≡ true
-      dir-is None h = h
-      dir-is (Some o) h = refl
-  in-order (rename x p n q m) = rename-order t _ _ _ _ _ _ _ (is-some (at x (t .objects))) (stands p n (at x (t .objects))) (dir-at q (t .objects)) (not (taken q m (t .objects))) (not (climbs (t .capacity) x q (t .objects))) (valid-name m)
+in-order : (t : Tree) (r : Record) → applied r t ≡ judge (tests (t .capacity) (r .edit) (t .objects)) t (with-objects t (effect (stamp-of r) (r .edit) (t .objects)), tt)
+in-order t r = applied-in-order t r ∙ ap (λ cs. judge cs t (with-objects t (effect (stamp-of r) (r .edit) (t .objects)), tt)) (tests-of (r .edit) t)
 
 -- ---- one record
 
 pub passed : (t : Tree) (r : Record) → Holds (tests (t .capacity) (r .edit) (t .objects)) → applied r t ≡ (with-objects t (effect (stamp-of r) (r .edit) (t .objects)), Ok tt)
-passed t r h = in-order t (stamp-of r) (r .edit) ∙ judge-holds (tests (t .capacity) (r .edit) (t .objects)) t (with-objects t (effect (stamp-of r) (r .edit) (t .objects)), tt) h
+passed t r h = in-order t r ∙ judge-passes (tests (t .capacity) (r .edit) (t .objects)) t (with-objects t (effect (stamp-of r) (r .edit) (t .objects)), tt) h
 
 pub accepted : (t : Tree) (r : Record) → applied r t .1 ≡ Ok tt → Holds (tests (t .capacity) (r .edit) (t .objects))
-accepted t r h = holds-judge (tests (t .capacity) (r .edit) (t .objects)) t (with-objects t (effect (stamp-of r) (r .edit) (t .objects)), tt) tt (sym (ap (λ z. z .1) (in-order t (stamp-of r) (r .edit))) ∙ h)
+accepted t r h = judge-accepts (tests (t .capacity) (r .edit) (t .objects)) t (with-objects t (effect (stamp-of r) (r .edit) (t .objects)), tt) tt (sym (ap (λ z. z .1) (in-order t r)) ∙ h)
 
 -- ---- records in turn
 
