@@ -1,4 +1,4 @@
--- Worked cases of cancelling and replay. Assumes nothing.
+-- Worked cases of cancelling, replay and priorities. Assumes nothing.
 --     one k e           the record of loader 1 with serial k and edit e
 --     log n rs          the log that entering rs one by one leaves, n numbers being given out
 --     library           a server with one file, number 2, named a, of the office's stamp
@@ -15,6 +15,7 @@ use Rattle.tree.specs.Trees.{Tree, file}
 use Rattle.model.specs.Records.{Edit, mkdir, create, store, remove, rmdir, rename, Record}
 use Rattle.model.specs.Cancelling.{entered}
 use Rattle.model.specs.Replaying.{replay}
+use Rattle.model.specs.Hoard.{weighted}
 
 abbrev pub stamp : ℕ → ℕ → Stamp
 stamp a s = record { author = a; serial = s }
@@ -58,5 +59,8 @@ pub record Worked-cases : Type 0 where
   pub trial-cancels : log 1 trial ≡ []
   pub trial-passes : replay 1 (log 1 trial) library ≡ Ok (with-next library 4)
   pub trial-clashes : replay 1 trial library ≡ Err (record { logged = one 1 (create temporary 1 a); failed = NameTaken })
+  -- priorities of the weighted policy, by rank and age
+  pub weighted-high : weighted 500 200 ≡ 575
+  pub weighted-low : weighted 2 1000 ≡ 1
   -- a file stored elsewhere meanwhile is a conflict
   pub stale-store : replay 0 (one 1 (store 2 a (stamp 0 1)) ∷ []) library ≡ Err (record { logged = one 1 (store 2 a (stamp 0 1)); failed = StampDiffers })

@@ -3,5 +3,9 @@ pub mod Applying
 pub mod Cancelling
 pub mod Replaying
 pub mod Office
+pub mod Hoard
+pub mod Loaders
+pub mod Worlds
+pub mod Past
 pub mod Cases
 pub mod Theorems

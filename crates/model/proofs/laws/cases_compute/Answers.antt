@@ -12,5 +12,7 @@ returns c = record {
   trial-cancels = refl;
   trial-passes = refl;
   trial-clashes = refl;
+  weighted-high = refl;
+  weighted-low = refl;
   stale-store = refl;
 }
