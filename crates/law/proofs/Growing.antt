@@ -5,7 +5,8 @@ use Prim.Native.Nat.{_+_}
 use native.Mathlib.Omega.{arith}
 use Rattle.model.specs.Applying.{applied}
 use Rattle.model.specs.Cancelling.{entered}
-use Rattle.law.specs.Spells.{Numbered, given, given-by, logged}
+use Rattle.model.specs.Past.{given, given-by}
+use Rattle.law.specs.Spells.{Numbered, logged}
 use Rattle.law.specs.Theorems.{Copy-grows, Count-grows, Log-grows, Spell-grows}
 
 pub count-grows : Count-grows

@@ -20,7 +20,8 @@ use Rattle.tree.proofs.Changed.{at-number, file-some}
 use Rattle.vocab.specs.declared.kind.Kind.the-variants.{Directory, File}
 use Rattle.vocab.specs.declared.stamp.Stamp.{Stamp}
 use Rattle.vocab.specs.Checks.{Holds}
-use Rattle.law.specs.Spells.{Numbered, given}
+use Rattle.model.specs.Past.{given}
+use Rattle.law.specs.Spells.{Numbered}
 use Rattle.law.proofs.Entering.{births}
 use Rattle.law.proofs.Lonely.{all-keep}
 use Rattle.law.proofs.Runs.{tests}

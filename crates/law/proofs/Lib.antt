@@ -10,3 +10,12 @@ pub mod Landing
 pub mod Sound
 pub mod Lost
 pub mod Growing
+pub mod Guarding
+pub mod Clashing
+pub mod Alike
+pub mod Standing
+pub mod Finding
+pub mod Sane
+pub mod Editing
+pub mod Turning
+pub mod Joining

@@ -16,7 +16,8 @@ use Rattle.model.specs.Replaying.{Outcome, replay, replayed}
 use Rattle.tree.specs.Changes.{with-next}
 use Rattle.tree.specs.Trees.{Ascends, Object, Tree, some-of, with-objects}
 use Rattle.tree.proofs.Ascending.{split-ascends}
-use Rattle.law.specs.Spells.{Spell, given, given-by, logged}
+use Rattle.model.specs.Past.{given, given-by}
+use Rattle.law.specs.Spells.{Spell, Under, logged}
 use Rattle.law.specs.Theorems.{Cancelling-loses-nothing}
 use Rattle.law.proofs.Entering.{entered-cancel}
 use Rattle.law.proofs.Knowing.{Placed}
@@ -24,7 +25,7 @@ use Rattle.law.proofs.OneStep.{Below, from}
 use Rattle.law.proofs.Runs.{accepted, passed, passes-run, run-passes}
 use Rattle.law.proofs.Sound.{Sound, sound-begin, sound-more}
 
-placed-under : (m n : ℕ) (l : List Object) → 2 ≤ n → Ascends n l → All (λ o. (o .number < m) × (o .parent < m)) l → All (Placed m 0) l
+pub placed-under : (m n : ℕ) (l : List Object) → 2 ≤ n → Ascends n l → All (λ o. (o .number < m) × (o .parent < m)) l → All (Placed m 0) l
 placed-under m n [] two a h = tt
 placed-under m n (o ∷ l) two a h = ((inl (h .0 .0), inl (h .0 .1), omega (arith, a .0)), placed-under m (suc (o .number)) l (omega (arith, a .0)) (a .1) (h .1))
 
@@ -48,22 +49,20 @@ module _ (m : ℕ) (two : 1 < m) (mt : m ≤ temporary) where
       let e : k + given-by vs ≡ n + (given (r .edit) + given-by vs) = omega arith in
       (rest .0, subst (λ z. Sound m (us ++ (r ∷ vs)) (logged n rs (r ∷ vs)) (rest .0) z) e (subst (λ z. Sound m z (logged n rs (r ∷ vs)) (rest .0) (k + given-by vs)) (append-assoc us (r ∷ []) vs) (rest .1)))
 
-pub nothing-lost : Cancelling-loses-nothing
-nothing-lost m two copy under us spell t here mb bt u h = go (replayed (t .next) N us t) refl h
+pub sound-replay : (m : ℕ) (us rs : List Record) (l : List Object) (n : ℕ) → Sound m us rs l n → (t : Tree) → Under (t .next) (t .objects) → m ≤ t .next → t .next ≤ temporary → (u : Tree) → replay n us t ≡ Ok u → replay n rs t ≡ Ok u
+sound-replay m us rs l n sound t here mb bt u h = go (replayed (t .next) n us t) refl h
   where
-    N : ℕ
-    N = given-by us
-
-    log : List Record
-    log = logged 0 [] us
-
-    last : (l : List Object) × Sound m us log l (0 + N)
-    last = sound-spell m two (omega arith) [] us [] copy 0 (sound-begin m (copy .objects) (placed-under m 2 (copy .objects) (omega arith) (under .ascending) (under .below))) spell
-
-    go : (o : Outcome) → replayed (t .next) N us t ≡ o → _≡_ {A = Outcome} (elim o [ Ok w ↦ Ok (with-next w (t .next + N)) | Err c ↦ Err c ]) (Ok u) → replay N log t ≡ Ok u
+    go : (o : Outcome) → replayed (t .next) n us t ≡ o → _≡_ {A = Outcome} (elim o [ Ok w ↦ Ok (with-next w (t .next + n)) | Err c ↦ Err c ]) (Ok u) → replay n rs t ≡ Ok u
     go (Ok w) e g =
-        let run = run-passes (t .next) N us t w e in
-        let same = last .1 .agree (t .capacity) (t .next) N (t .objects) mb bt (omega arith) (split-ascends 2 (t .objects) (here .ascending)) (below-under (t .next) (t .objects) (here .below)) (run .0) in
-        let runs : replayed (t .next) N log t ≡ Ok w = passes-run (t .next) N log t (same .0) ∙ ap (λ z. Ok (with-objects t z)) (same .1) ∙ ap Ok (sym (run .1)) in
+        let run = run-passes (t .next) n us t w e in
+        let same = sound .agree (t .capacity) (t .next) n (t .objects) mb bt (omega arith) (split-ascends 2 (t .objects) (here .ascending)) (below-under (t .next) (t .objects) (here .below)) (run .0) in
+        let runs : replayed (t .next) n rs t ≡ Ok w = passes-run (t .next) n rs t (same .0) ∙ ap (λ z. Ok (with-objects t z)) (same .1) ∙ ap Ok (sym (run .1)) in
         rw (runs, replay) g
     go (Err c) e g = let z : _≡_ {A = ℕ} 0 1 = cc in absurd (omega arith)
+
+pub nothing-lost : Cancelling-loses-nothing
+nothing-lost m two copy under us spell t here mb bt u h =
+    let begun = sound-begin m (copy .objects) (placed-under m 2 (copy .objects) (omega arith) (under .ascending) (under .below)) in
+    let last = sound-spell m two (omega arith) [] us [] copy 0 begun spell in
+    let e : 0 + given-by us ≡ given-by us = omega arith in
+    sound-replay m us (logged 0 [] us) (last .0) (given-by us) (subst (Sound m us (logged 0 [] us) (last .0)) e (last .1)) t here mb bt u h

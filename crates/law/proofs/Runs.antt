@@ -40,7 +40,7 @@ never : {A B : Type 0} (a : A) (b : B) → Err b ≡ Ok a → ⊥
 never a b e = let z : _≡_ {A = ℕ} 0 1 = cc in omega arith
 
 -- the checks do not read the next number
-tests-of : (e : Edit) (t : Tree) → all-checks e t ≡ tests (t .capacity) e (t .objects)
+pub tests-of : (e : Edit) (t : Tree) → all-checks e t ≡ tests (t .capacity) e (t .objects)
 tests-of (mkdir x p n) t = refl
 tests-of (create x p n) t = refl
 tests-of (store x c e) t = refl
@@ -48,7 +48,7 @@ tests-of (remove x p n e) t = refl
 tests-of (rmdir x p n) t = refl
 tests-of (rename x p n q m) t = refl
 
-in-order : (t : Tree) (r : Record) → applied r t ≡ judge (tests (t .capacity) (r .edit) (t .objects)) t (with-objects t (effect (stamp-of r) (r .edit) (t .objects)), tt)
+pub in-order : (t : Tree) (r : Record) → applied r t ≡ judge (tests (t .capacity) (r .edit) (t .objects)) t (with-objects t (effect (stamp-of r) (r .edit) (t .objects)), tt)
 in-order t r = applied-in-order t r ∙ ap (λ cs. judge cs t (with-objects t (effect (stamp-of r) (r .edit) (t .objects)), tt)) (tests-of (r .edit) t)
 
 -- ---- one record

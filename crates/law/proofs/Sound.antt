@@ -19,7 +19,8 @@ use Rattle.tree.proofs.Changed.{at-number, file-some}
 use Rattle.tree.proofs.Lists.{map-append}
 use Rattle.tree.proofs.Objects.{Split}
 use Rattle.vocab.specs.Checks.{Holds}
-use Rattle.law.specs.Spells.{Numbered, given}
+use Rattle.model.specs.Past.{given}
+use Rattle.law.specs.Spells.{Numbered}
 use Rattle.law.proofs.Entering.{Lone, cancel, lands, lands-other}
 use Rattle.law.proofs.Knowing.{Placed, at-all, known-more, knows, knows-more, placed-effect}
 use Rattle.law.proofs.Landing.{all-cancel, born-is, file-before, free-knows, fresh-landings, landing-cancel, lands-file}

@@ -1,2 +1,4 @@
 pub mod Spells
 pub mod Theorems
+pub mod Guarantees
+pub mod Examples

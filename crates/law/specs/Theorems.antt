@@ -12,7 +12,8 @@ use Rattle.model.specs.Applying.{applied}
 use Rattle.model.specs.Cancelling.{entered}
 use Rattle.model.specs.Records.{Record}
 use Rattle.model.specs.Replaying.{replay}
-use Rattle.law.specs.Spells.{Numbered, Spell, Under, copy-after, given, given-by, logged}
+use Rattle.model.specs.Past.{copy-after, given, given-by}
+use Rattle.law.specs.Spells.{Numbered, Spell, Under, logged}
 
 -- the spell began on a copy of a tree whose next number was m; t is the tree later
 abbrev pub Cancelling-loses-nothing : Type 0
