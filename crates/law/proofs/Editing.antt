@@ -93,22 +93,22 @@ module _ (next a : ℕ) (d : Loader) (s : Stay) (c : Call) (p : Past) (mine : d 
   abbrev l : List Object
   l = o .tree .objects
 
-  same-edit : r .edit ≡ u .edit
+  pub same-edit : r .edit ≡ u .edit
   same-edit = like-edit (temporary + s .given) c (d .copy) (o .tree) (o .like) ∙ ap (edit-of (temporary + s .given) c) (sym (o .is)) ∙ ap (λ k. edit-of (temporary + k) c (shadow cap p)) (o .given)
 
   same : r ≡ u
   same = ap (λ z. record { author = z; serial = d .serial + 1; edit = r .edit }) mine ∙ ap (λ z. record { author = a; serial = z + 1; edit = r .edit }) counted ∙ ap (λ z. record { author = a; serial = p .edits + 1; edit = z }) same-edit
 
-  listed-passes : Holds (tests (o .tree .capacity) (u .edit) l)
+  pub listed-passes : Holds (tests (o .tree .capacity) (u .edit) l)
   listed-passes = subst Holds (like-tests cap (r .edit) (d .copy .objects) l (o .like) ∙ ap (λ z. tests cap z l) same-edit ∙ ap (λ k. tests k (u .edit) l) (sym (o .room))) ok
 
   abbrev after : Past
   after = record { seen = p .seen; list = p .list ++ (u ∷ []); edits = p .edits + 1 }
 
-  shadow-now : shadow cap after ≡ with-objects (o .tree) (effect (stamp-of u) (u .edit) l)
+  pub shadow-now : shadow cap after ≡ with-objects (o .tree) (effect (stamp-of u) (u .edit) l)
   shadow-now = copy-grows (p .list) u (walk-tree cap p) ∙ ap (λ t. applied u t .0) (o .is) ∙ ap (λ z. z .0) (passed (o .tree) u listed-passes)
 
-  num : Numbered (s .given) (u .edit)
+  pub num : Numbered (s .given) (u .edit)
   num = subst (λ z. Numbered z (u .edit)) (sym (o .given)) (numbered (given-by (p .list)) c (shadow cap p))
 
   entry : entered (s .given + given (u .edit)) (log s d) u ≡ cancel (born (s .given + given (u .edit))) (o .records) u

@@ -19,3 +19,8 @@ pub mod Sane
 pub mod Editing
 pub mod Turning
 pub mod Joining
+pub mod Awaiting
+pub mod Stamping
+pub mod Telling
+pub mod Retelling
+pub mod Seeing

@@ -90,7 +90,7 @@ module _ (b : ℕ) (l : List Object) (h : Under b l) where
 
 -- ---- the office's calls
 
-raised-keeps : (P : Tree → Type 0) (k : ℕ) (cs : List Check) (t u : Tree) → P t → (Holds cs → P (with-next u (u .next + k))) → P (raised k (judge cs t (u, tt)) .0)
+pub raised-keeps : (P : Tree → Type 0) (k : ℕ) (cs : List Check) (t u : Tree) → P t → (Holds cs → P (with-next u (u .next + k))) → P (raised k (judge cs t (u, tt)) .0)
 raised-keeps P k [] t u p q = q tt
 raised-keeps P k (c ∷ cs) t u p q = go (raised-keeps P k cs t u p) (c .holds) refl
   where

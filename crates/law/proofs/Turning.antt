@@ -170,7 +170,7 @@ module _ (w : World) (ps : Pasts) (sane : Sane w ps) (a : ℕ) (d : Loader) (the
 abbrev Left : Turn → World → Pasts → World × Answer → Type 0
 Left t w ps z = Sane (z .0) (past-after t w (z .1) ps)
 
-step-sane : (t : Turn) (w : World) (ps : Pasts) → Sane w ps → Left t w ps (step t w)
+pub step-sane : (t : Turn) (w : World) (ps : Pasts) → Sane w ps → Left t w ps (step t w)
 step-sane (office c) w ps h =
     let g = office-stands (w .server) (h .server) c in
     record { server = g .0; differ = h .differ; each = all-weaker (λ d. Fit (w .server .next) d (ps (d .number))) (λ d. Fit (called c (w .server) .0 .next) d (ps (d .number))) (λ d k. (k .0, later (w .server .next) (called c (w .server) .0 .next) (g .1) (d .copy) (d .memory) (ps (d .number)) (d .state) (k .1))) (w .loaders) (h .each) }

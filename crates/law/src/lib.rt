@@ -1,7 +1,8 @@
 // That what cancels in a log is not missed when the log is replayed, and what a join guarantees in every run.
 ghost use Rattle.law.specs.Examples.{Worked-runs};
 ghost use Rattle.law.specs.Guarantees.{Join-follows-the-edits, Refused-join-changes-nothing, Conflict-names-first-failure};
-ghost use Rattle.law.specs.Guarantees.{Log-knows-its-numbers, Server-numbers-stay-below, State-agrees-with-the-past};
+ghost use Rattle.law.specs.Guarantees.{Join-overwrites-only-what-was-seen, Join-touches-only-what-is-listed};
+ghost use Rattle.law.specs.Guarantees.{Server-numbers-stay-below, State-agrees-with-the-past, Log-knows-its-numbers};
 ghost use Rattle.law.specs.Theorems.{Cancelling-loses-nothing};
 ghost use Rattle.law.specs.Theorems.{Count-grows, Copy-grows, Spell-grows, Log-grows};
 
@@ -27,6 +28,8 @@ pub fn joins_keep_their_guarantees() -> u8
     ensures numbers { λ _. ⌜ Server-numbers-stay-below ⌝ }
     ensures state { λ _. ⌜ State-agrees-with-the-past ⌝ }
     ensures log { λ _. ⌜ Log-knows-its-numbers ⌝ }
+    ensures seen { λ _. ⌜ Join-overwrites-only-what-was-seen ⌝ }
+    ensures listed { λ _. ⌜ Join-touches-only-what-is-listed ⌝ }
 {
     0
 }

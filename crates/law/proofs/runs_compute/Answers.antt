@@ -12,6 +12,7 @@ returns c = record {
     high = omega arith;
     new = ((refl, refl, omega arith), tt);
     differ = (refl, tt);
+    stamps = tt;
   };
   list-passes = refl;
   join-passes = refl;
