@@ -1,2 +1,4 @@
 // The format of images, and what is proved of it.
+#![tactic(auto)]
+
 pub mod laws;

@@ -1,4 +1,6 @@
 // A store in bytes that begin with the image of its tree.
+#![tactic(auto)]
+
 ghost use Rattle.std.specs.Prelude.{◌≤◌, length};
 ghost use Rattle.tree.specs.Law.{Lawful};
 ghost use Rattle.format.specs.Images.{Begins, sections_of, tree_in};

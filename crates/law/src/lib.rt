@@ -1,4 +1,6 @@
 // That what cancels in a log is not missed when the log is replayed, and what a join guarantees in every run.
+#![tactic(auto)]
+
 ghost use Rattle.law.specs.Examples.{WorkedRuns, WorkedJoins, NumberGivenAgainOverwrites};
 ghost use Rattle.law.specs.Guarantees.{JoinFollowsTheEdits, RefusedJoinChangesNothing, ConflictNamesFirstFailure};
 ghost use Rattle.law.specs.Guarantees.{JoinOverwritesOnlyWhatWasSeen, JoinTouchesOnlyWhatIsListed};

@@ -1,4 +1,6 @@
 // The listing of any store's tree, by a walk that holds the directories still to be finished.
+#![tactic(auto)]
+
 ghost use Rattle.std.specs.Prelude.{◌≡◌, ◌<◌, ◌≤◌, [], length, IfOk, MatchResult};
 ghost use Rattle.vocab.specs.declared.refusal.Refusal.TheVariants.{ListShort};
 ghost use Rattle.vocab.specs.Meaning.{numbered, values};

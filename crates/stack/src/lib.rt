@@ -1,4 +1,6 @@
 // One stack over memory that is passed in, for every kind of element.
+#![tactic(auto)]
+
 ghost use Rattle.std.specs.Prelude.{◌≤◌, length};
 
 #[derive(Drop)]

@@ -1,4 +1,6 @@
 // Tests of stores, of the stack and of the listing. What a store must do is tested for any store; the tests open one and pass it on.
+#![tactic(auto)]
+
 #[cfg(test)]
 mod adding;
 #[cfg(test)]

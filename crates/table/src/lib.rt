@@ -1,4 +1,6 @@
 // A store in rows of memory: the rows, and the tree that they stand for.
+#![tactic(auto)]
+
 ghost use Rattle.std.specs.Prelude.{◌≡◌, length};
 ghost use Rattle.tree.specs.Law.{Lawful};
 ghost use Rattle.rows.specs.Rows.{objects_in, tree_in};

@@ -1,4 +1,6 @@
 // The words that every layer shares: refusals, layers, numbers, names, contents, stamps.
+#![tactic(auto)]
+
 pub mod buffer;
 pub mod bytes;
 pub mod kind;

@@ -1,4 +1,6 @@
 // A week at the library server of a pedal workshop. It is Monday yet.
+#![tactic(auto)]
+
 mod monday;
 mod print;
 mod step;
