@@ -1,7 +1,7 @@
 -- Bytes laid into places that were 0. Assumes nothing.
 use Rattle.std.proofs.Common.{◌≡◌, ℕ, suc, ◌+◌, ◌-◌, ◌<◌, ◌≤◌, List, [], ◌∷◌, ◌++◌, length, get_or, take, drop, set, replicate, sym, refl, ap, ◌∙◌, append_assoc, arith}
 use lib.Seq.{take-append-add}
-use Rattle.std.proofs.lemmas.List.{length-take-le, set-append_right, take_more, take_at, drop_at, take_all, take-replicate}
+use Rattle.std.proofs.lemmas.List.{length-take-le, set-append_right, take_more, take_at, drop_at, take_all, take-append-drop, take-replicate}
 use Rattle.vocab.specs.Buffers.{padded}
 
 -- the first i bytes of bs, then 0 up to n places
@@ -34,3 +34,12 @@ padded_is n bs h =
     ap (λ m. take m (bs ++ replicate n 0)) count
     ∙ take-append-add bs (replicate n 0) (n - length bs)
     ∙ ap (λ z. bs ++ z) (take-replicate (n - length bs) n 0 (omega arith))
+
+-- places whose rest is 0 are the padded front
+pub padded_front : (n len : ℕ) (held : List ℕ) → length held ≡ n → len ≤ n → drop len held ≡ replicate (n - len) 0 → held ≡ padded n (take len held)
+padded_front n len held count within rest =
+    let front : length (take len held) ≡ len = length-take-le len held (omega arith) in
+    sym (take-append-drop len held)
+    ∙ ap (λ z. take len held ++ z) rest
+    ∙ ap (λ m. take len held ++ replicate (n - m) 0) (sym front)
+    ∙ sym (padded_is n (take len held) (omega arith))

@@ -13,5 +13,5 @@ returns-in-err-index c =
 pub returns : goal.returns
 returns c =
     let l = section c.args.kind (sections_of c.args.self.now) in
-    ap (λ x. Some (record { 0 = x })) c.number-at.ensures
+    ap (λ x. Some (record { 0 = x })) c.number_at.ensures
     ∙ sym (ap numbered (child_first c.args.parent.0 c.args.above.0 l c.in-ok-index.index c.in-ok-index.ensures))

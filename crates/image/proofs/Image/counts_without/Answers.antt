@@ -4,12 +4,12 @@ use Rattle.image.specs.Stores.{sections_of}
 use Rattle.image.proofs.Standing.{directories_are, files_are}
 use Rattle.image.proofs.Image.counts_without.Goals as goal
 
-pub overflow-sub-result : goal.overflow-sub-result
-overflow-sub-result c =
+pub overflow_sub-result : goal.overflow_sub-result
+overflow_sub-result c =
     let s = c.args.self.now in
     omega (arith, c.requires, ap (λ k. length (section k (sections_of s))) c.in-Directory.is, directories_are s)
 
-pub overflow-sub-result-in-File : goal.overflow-sub-result-in-File
-overflow-sub-result-in-File c =
+pub overflow_sub-result-in-File : goal.overflow_sub-result-in-File
+overflow_sub-result-in-File c =
     let s = c.args.self.now in
     omega (arith, c.requires, ap (λ k. length (section k (sections_of s))) c.in-File.is, files_are s)

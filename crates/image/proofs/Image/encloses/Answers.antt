@@ -28,7 +28,7 @@ loop-i-preserved c =
     let n = c.room-i-end.result in
     c.loop-i.invariant
     ∙ climb_up n c.loop-i.i x c.loop-i.here.0 t.objects c.loop-i-test.true c.if-here-number.false (found t c.in-Some.place) c.in-Some.ensures.here
-    ∙ ap (λ y. climbs (n - (c.loop-i.i + 1)) x y t.objects) (sym c.parent-at-here.ensures)
+    ∙ ap (λ y. climbs (n - (c.loop-i.i + 1)) x y t.objects) (sym c.parent_at-here.ensures)
 
 pub returns : goal.returns
 returns c =

@@ -5,14 +5,14 @@ use Rattle.image.proofs.Image.end.Goals as goal
 pub overflow-mul-result : goal.overflow-mul-result
 overflow-mul-result c = omega (arith, at_most c.args.self.now)
 
-pub overflow-add-result : goal.overflow-add-result
-overflow-add-result c = omega (arith, at_most c.args.self.now)
+pub overflow_add-result : goal.overflow_add-result
+overflow_add-result c = omega (arith, at_most c.args.self.now)
 
 pub overflow-mul-result-2 : goal.overflow-mul-result-2
 overflow-mul-result-2 c = omega (arith, at_most c.args.self.now)
 
-pub overflow-add-result-2 : goal.overflow-add-result-2
-overflow-add-result-2 c = omega (arith, at_most c.args.self.now)
+pub overflow_add-result-2 : goal.overflow_add-result-2
+overflow_add-result-2 c = omega (arith, at_most c.args.self.now)
 
 pub returns : goal.returns
 returns c = let s = c.args.self.now in omega (arith, directories_are s, files_are s)

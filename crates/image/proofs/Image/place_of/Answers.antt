@@ -5,9 +5,9 @@ use Rattle.image.proofs.Image.place_of.Goals as goal
 pub overflow-mul-result : goal.overflow-mul-result
 overflow-mul-result c =
     let s = c.args.self.now in
-    omega (arith, ap (λ w. w * c.args.index) c.size-of.ensures, place_low s c.args.kind c.args.index c.requires, size_low s)
+    omega (arith, ap (λ w. w * c.args.index) c.size_of.ensures, place_low s c.args.kind c.args.index c.requires, size_low s)
 
-pub overflow-add-result : goal.overflow-add-result
-overflow-add-result c =
+pub overflow_add-result : goal.overflow_add-result
+overflow_add-result c =
     let s = c.args.self.now in
-    omega (arith, ap (λ w. w * c.args.index) c.size-of.ensures, place_low s c.args.kind c.args.index c.requires, size_low s)
+    omega (arith, ap (λ w. w * c.args.index) c.size_of.ensures, place_low s c.args.kind c.args.index c.requires, size_low s)

@@ -10,13 +10,13 @@ use Rattle.image.proofs.Standing.{place_held, size_low}
 use Rattle.image.proofs.Storing.{held_after, lawful_after, spare_after, tree_after}
 use Rattle.image.proofs.Image.replace.Goals as goal
 
-pub overflow-add-at : goal.overflow-add-at
-overflow-add-at c =
+pub overflow_add-at : goal.overflow_add-at
+overflow_add-at c =
     let s = c.args.self.now in
     let p = c.args.place in
     let room = entry_held s p c.requires.within in
     let long = place_held s p.kind p.index c.requires.within in
-    omega (arith, c.place-of-at.ensures, size_low s, head_low p.kind, c.as-mut-slice-bytes.ensures.len, s.bytes.ok.0)
+    omega (arith, c.place_of-at.ensures, size_low s, head_low p.kind, c.as_mut_slice-bytes.ensures.len, s.bytes.ok.0)
 
 pub write-requires : goal.write-requires
 write-requires c =
@@ -24,35 +24,35 @@ write-requires c =
     let p = c.args.place in
     let room = entry_held s p c.requires.within in
     let long = place_held s p.kind p.index c.requires.within in
-    omega (arith, c.place-of-at.ensures, size_low s, head_low p.kind, c.as-mut-slice-bytes.ensures.len, s.bytes.ok.0, ap length c.to-le-bytes.ensures)
+    omega (arith, c.place_of-at.ensures, size_low s, head_low p.kind, c.as_mut_slice-bytes.ensures.len, s.bytes.ok.0, ap length c.to_le_bytes.ensures)
 
-pub overflow-add-at-2 : goal.overflow-add-at-2
-overflow-add-at-2 c =
+pub overflow_add-at-2 : goal.overflow_add-at-2
+overflow_add-at-2 c =
     let s = c.args.self.now in
     let p = c.args.place in
     let room = entry_held s p c.requires.within in
     let long = place_held s p.kind p.index c.requires.within in
-    omega (arith, c.place-of-at.ensures, size_low s, head_low p.kind, c.as-mut-slice-bytes.ensures.len, s.bytes.ok.0)
+    omega (arith, c.place_of-at.ensures, size_low s, head_low p.kind, c.as_mut_slice-bytes.ensures.len, s.bytes.ok.0)
 
-pub write-name-requires : goal.write-name-requires
-write-name-requires c =
+pub write_name-requires : goal.write_name-requires
+write_name-requires c =
     let s = c.args.self.now in
     let p = c.args.place in
     let room = entry_held s p c.requires.within in
     let long = place_held s p.kind p.index c.requires.within in
-    omega (arith, c.place-of-at.ensures, size_low s, head_low p.kind, c.as-mut-slice-bytes.ensures.len, s.bytes.ok.0)
+    omega (arith, c.place_of-at.ensures, size_low s, head_low p.kind, c.as_mut_slice-bytes.ensures.len, s.bytes.ok.0)
 
-pub invariant-of-self : goal.invariant-of-self
+pub invariant_of-self : goal.invariant_of-self
 unfolding le32
-invariant-of-self c =
+invariant_of-self c =
     let s = c.args.self.now in
     let p = c.args.place in
-    let cs = c.write-name.new.bytes in
+    let cs = c.write_name.new.bytes in
     let u = with_objects (tree_of s) (change (found (tree_of s) p).number (with_place c.args.parent.0 (name_of c.args.name.now)) (tree_of s).objects) in
-    let long : length cs ≡ s.bytes.len = omega (arith, c.as-mut-slice-bytes.ensures.len) in
+    let long : length cs ≡ s.bytes.len = omega (arith, c.as_mut_slice-bytes.ensures.len) in
     let kept =
-    replaced s p c.requires.within cs (long ∙ s.bytes.ok.0) c.place-of-at.result c.place-of-at.ensures c.args.parent.0 (name_of c.args.name.now) c.requires.lawful
-    c.as-mut-slice-bytes.result.now c.write.new.bytes c.to-le-bytes.result c.as-mut-slice-bytes.ensures.value c.to-le-bytes.ensures c.write.ensures c.write-name.ensures in
+    replaced s p c.requires.within cs (long ∙ s.bytes.ok.0) c.place_of-at.result c.place_of-at.ensures c.args.parent.0 (name_of c.args.name.now) c.requires.lawful
+    c.as_mut_slice-bytes.result.now c.write.new.bytes c.to_le_bytes.result c.as_mut_slice-bytes.ensures.value c.to_le_bytes.ensures c.write.ensures c.write_name.ensures in
     (lawful_after s cs long _ _ _ u kept, (held_after s cs long _ _ _ u kept, tt))
 
 pub returns : goal.returns
@@ -60,10 +60,10 @@ unfolding le32 tree_of spare_of
 returns c =
     let s = c.args.self.now in
     let p = c.args.place in
-    let cs = c.write-name.new.bytes in
+    let cs = c.write_name.new.bytes in
     let u = with_objects (tree_of s) (change (found (tree_of s) p).number (with_place c.args.parent.0 (name_of c.args.name.now)) (tree_of s).objects) in
-    let long : length cs ≡ s.bytes.len = omega (arith, c.as-mut-slice-bytes.ensures.len) in
+    let long : length cs ≡ s.bytes.len = omega (arith, c.as_mut_slice-bytes.ensures.len) in
     let kept =
-    replaced s p c.requires.within cs (long ∙ s.bytes.ok.0) c.place-of-at.result c.place-of-at.ensures c.args.parent.0 (name_of c.args.name.now) c.requires.lawful
-    c.as-mut-slice-bytes.result.now c.write.new.bytes c.to-le-bytes.result c.as-mut-slice-bytes.ensures.value c.to-le-bytes.ensures c.write.ensures c.write-name.ensures in
+    replaced s p c.requires.within cs (long ∙ s.bytes.ok.0) c.place_of-at.result c.place_of-at.ensures c.args.parent.0 (name_of c.args.name.now) c.requires.lawful
+    c.as_mut_slice-bytes.result.now c.write.new.bytes c.to_le_bytes.result c.as_mut_slice-bytes.ensures.value c.to_le_bytes.ensures c.write.ensures c.write_name.ensures in
     record { tree = tree_after s cs long _ _ _ u kept; spare = spare_after s cs long _ _ _ u kept (λ h. absurd (omega (arith, held_large s p c.requires.within))) }

@@ -12,7 +12,7 @@ loop-low-preserved-then-here-number-2 c =
     let s = c.args.self.now in
     let l = section c.args.kind (sections_of s) in
     let m = c.loop-low.low + (c.loop-low.high - c.loop-low.low) / 2 in
-    let here : (get_or l m nothing).number ≡ c.word-at-here.result = sym (c.word-at-here.ensures ∙ c.entry.ensures.number) in
+    let here : (get_or l m nothing).number ≡ c.word_at-here.result = sym (c.word_at-here.ensures ∙ c.entry.ensures.number) in
     let within : m < length l = omega (arith, c.loop-low.invariant.1) in
     let up = ascends_get_or nothing 2 l (section_ascends (tree_of s) (law s) c.args.kind) in
     (omega arith, c.loop-low.invariant.1, (λ j h. omega (arith, up j m (omega arith) within)), c.loop-low.invariant.3)
@@ -22,7 +22,7 @@ loop-low-preserved c =
     let s = c.args.self.now in
     let l = section c.args.kind (sections_of s) in
     let m = c.loop-low.low + (c.loop-low.high - c.loop-low.low) / 2 in
-    let here : (get_or l m nothing).number ≡ c.word-at-here.result = sym (c.word-at-here.ensures ∙ c.entry.ensures.number) in
+    let here : (get_or l m nothing).number ≡ c.word_at-here.result = sym (c.word_at-here.ensures ∙ c.entry.ensures.number) in
     let up = ascends_get_or nothing 2 l (section_ascends (tree_of s) (law s) c.args.kind) in
-    let other : c.args.number.0 < c.word-at-here.result = omega (arith, c.if-here-number.false) in
+    let other : c.args.number.0 < c.word_at-here.result = omega (arith, c.if-here-number.false) in
     (omega arith, omega (arith, c.loop-low.invariant.1), c.loop-low.invariant.2, (λ j h k. omega (arith, up m j (omega arith) k)))

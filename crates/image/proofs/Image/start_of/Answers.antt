@@ -7,8 +7,8 @@ use Rattle.image.proofs.Image.start_of.Goals as goal
 pub overflow-mul-result : goal.overflow-mul-result
 overflow-mul-result c = omega (arith, at_most c.args.self.now)
 
-pub overflow-add-result : goal.overflow-add-result
-overflow-add-result c = omega (arith, at_most c.args.self.now)
+pub overflow_add-result : goal.overflow_add-result
+overflow_add-result c = omega (arith, at_most c.args.self.now)
 
 pub returns-in-File : goal.returns-in-File
 returns-in-File c =

@@ -11,7 +11,7 @@ use Rattle.image.proofs.entry.write_contents.Goals as goal
 pub overflow-cast-len : goal.overflow-cast-len
 overflow-cast-len c =
     let b = c.args.contents.now in
-    omega (arith, ap length c.as-slice.ensures, length-take b.len b.held, b.within)
+    omega (arith, ap length c.as_slice.ensures, length-take b.len b.held, b.within)
 
 pub write-requires-2 : goal.write-requires-2
 write-requires-2 c = omega (arith, ap length c.filled.ensures, length_padded 256 (contents_of c.args.contents.now))
@@ -23,7 +23,7 @@ returns c =
     let at = c.args.at in
     let cs = contents_of c.args.contents.now in
     then bs (le16 (length cs)) (padded longest_contents cs) at (at + 2)
-    (c.write.ensures ∙ ap (written bs at) (c.to-le-bytes.ensures ∙ ap (λ m. le16 (length m)) c.as-slice.ensures))
+    (c.write.ensures ∙ ap (written bs at) (c.to_le_bytes.ensures ∙ ap (λ m. le16 (length m)) c.as_slice.ensures))
     (c.write-2.ensures ∙ ap (written c.write.new.bytes (at + 2)) c.filled.ensures)
     refl
     (omega (arith, length_padded 256 cs))

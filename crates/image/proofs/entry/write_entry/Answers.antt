@@ -16,8 +16,8 @@ returns-in-File c =
     let at = c.args.at in
     let o = fresh Directory c.args.parent.0 (name_of c.args.name.now) c.args.number.0 c.args.stamp in
     then bs (head_bytes o) (contents_field []) at (at + 39)
-    c.write-head.ensures
-    (c.write-contents.ensures ∙ ap (λ m. written c.write-head.new.bytes (at + 39) (contents_field m)) c.empty.ensures)
+    c.write_head.ensures
+    (c.write_contents.ensures ∙ ap (λ m. written c.write_head.new.bytes (at + 39) (contents_field m)) c.empty.ensures)
     (omega (arith, length_head o))
     (omega (arith, length_contents [], ap entry_size c.in-File.is))
     ∙ ap (λ k. written bs at (entry_bytes k (fresh k c.args.parent.0 (name_of c.args.name.now) c.args.number.0 c.args.stamp))) (sym c.in-File.is)

@@ -17,11 +17,11 @@ returns c =
     let name = name_field (name_of c.args.name.now) in
     let ls = length_stamp c.args.stamp in
     let ln = length_name (name_of c.args.name.now) in
-    let one : c.write.new.bytes ≡ written bs at number = c.write.ensures ∙ ap (written bs at) c.to-le-bytes.ensures in
-    let two = then bs number parent at (at + 4) one (c.write-2.ensures ∙ ap (written c.write.new.bytes (at + 4)) c.to-le-bytes-2.ensures) refl (omega arith) in
-    let three = then bs (number ++ parent) stamp at (at + 8) two c.write-stamp.ensures refl (omega arith) in
+    let one : c.write.new.bytes ≡ written bs at number = c.write.ensures ∙ ap (written bs at) c.to_le_bytes.ensures in
+    let two = then bs number parent at (at + 4) one (c.write-2.ensures ∙ ap (written c.write.new.bytes (at + 4)) c.to_le_bytes-2.ensures) refl (omega arith) in
+    let three = then bs (number ++ parent) stamp at (at + 8) two c.write_stamp.ensures refl (omega arith) in
     let four =
-    then bs ((number ++ parent) ++ stamp) name at (at + 14) three c.write-name.ensures
+    then bs ((number ++ parent) ++ stamp) name at (at + 14) three c.write_name.ensures
     (omega (arith, length-append (number ++ parent) stamp))
     (omega arith) in
     let all : ((number ++ parent) ++ stamp) ++ name ≡ number ++ (parent ++ (stamp ++ name)) = simp append_assoc in

@@ -8,10 +8,10 @@ use Rattle.format.proofs.Lengths.{length_padded}
 use Rattle.format.proofs.Writing.{then}
 use Rattle.image.proofs.entry.write_name.Goals as goal
 
-pub overflow-cast-as-bytes : goal.overflow-cast-as-bytes
-overflow-cast-as-bytes c =
+pub overflow-cast-as_bytes : goal.overflow-cast-as_bytes
+overflow-cast-as_bytes c =
     let n = c.args.name.now.text in
-    omega (arith, ap length c.as-bytes.ensures, length-take n.len n.held, n.within)
+    omega (arith, ap length c.as_bytes.ensures, length-take n.len n.held, n.within)
 
 pub write-requires-2 : goal.write-requires-2
 write-requires-2 c = omega (arith, ap length c.filled.ensures, length_padded 24 (name_of c.args.name.now))
@@ -23,7 +23,7 @@ returns c =
     let at = c.args.at in
     let n = name_of c.args.name.now in
     then bs (length n ∷ []) (padded longest_name n) at (at + 1)
-    (c.write.ensures ∙ ap (λ m. written bs at (length m ∷ [])) c.as-bytes.ensures)
+    (c.write.ensures ∙ ap (λ m. written bs at (length m ∷ [])) c.as_bytes.ensures)
     (c.write-2.ensures ∙ ap (written c.write.new.bytes (at + 1)) c.filled.ensures)
     refl
     (omega (arith, length_padded 24 n))

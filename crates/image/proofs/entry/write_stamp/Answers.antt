@@ -11,7 +11,7 @@ returns c =
     let at = c.args.at in
     let s = c.args.stamp in
     then bs (le16 s.author) (le32 s.serial) at (at + 2)
-    (c.write.ensures ∙ ap (written bs at) c.to-le-bytes.ensures)
-    (c.write-2.ensures ∙ ap (written c.write.new.bytes (at + 2)) c.to-le-bytes-2.ensures)
+    (c.write.ensures ∙ ap (written bs at) c.to_le_bytes.ensures)
+    (c.write-2.ensures ∙ ap (written c.write.new.bytes (at + 2)) c.to_le_bytes-2.ensures)
     refl
     (omega arith)

@@ -6,5 +6,5 @@ pub returns : goal.returns
 returns c =
     let bs = c.args.bytes.now in
     let past = Post-is c.args.at (c.args.end + c.args.width) bs (omega arith) in
-    let part = c.rotate-right.ensures.after in
+    let part = c.rotate_right.ensures.after in
     λ i. take c.args.at bs ++ (part i ++ past i)

@@ -6,5 +6,5 @@ pub returns : goal.returns
 returns c =
     let bs = c.args.bytes.now in
     let past = Post-is c.args.at (c.args.at + length c.args.field.now) bs (omega arith) in
-    let part = c.copy-from-slice.ensures.after in
+    let part = c.copy_from_slice.ensures.after in
     λ i. take c.args.at bs ++ (part i ++ past i)

@@ -8,4 +8,4 @@ use Rattle.table.proofs.Table.has_children.Goals as goal
 pub returns : goal.returns
 returns c =
     let p = child_of c.args.number.0 in
-    c.is-some.ensures ∙ some_searched p (rows_of c.args.self.now) c.first.result (subst (λ rows. Searched p rows c.first.result) c.deref.ensures.value c.first.ensures)
+    c.is_some.ensures ∙ some_searched p (rows_of c.args.self.now) c.first.result (subst (λ rows. Searched p rows c.first.result) c.deref.ensures.value c.first.ensures)

@@ -4,16 +4,16 @@ use Rattle.rows.specs.Rows.{objects_in}
 use Rattle.rows.proofs.Holding.{rows_cleared, rows_cleared_lawful}
 use Rattle.table.proofs.Table.open.Goals as goal
 
-pub invariant-of-result : goal.invariant-of-result
-invariant-of-result c =
-    let rows = c.free-all.new.rows in
+pub invariant_of-result : goal.invariant_of-result
+invariant_of-result c =
+    let rows = c.free_all.new.rows in
     let l : length rows ≡ c.args.rows.len = omega arith in
-    let none = ap objects_in (with_items_is c.args.rows rows l) ∙ c.free-all.ensures in
+    let none = ap objects_in (with_items_is c.args.rows rows l) ∙ c.free_all.ensures in
     (sym (ap length none), (∣ rows_cleared_lawful _ 2 none (omega arith) (omega arith) ∣₁, tt))
 
 pub returns : goal.returns
 returns c =
-    let rows = c.free-all.new.rows in
+    let rows = c.free_all.new.rows in
     let l : length rows ≡ c.args.rows.len = omega arith in
     let i = with_items_is c.args.rows rows l in
-    rows_cleared (vec_items c.args.rows) _ 2 (ap length i ∙ l ∙ c.args.rows.ok.0) (ap objects_in i ∙ c.free-all.ensures)
+    rows_cleared (vec_items c.args.rows) _ 2 (ap length i ∙ l ∙ c.args.rows.ok.0) (ap objects_in i ∙ c.free_all.ensures)

@@ -6,18 +6,18 @@ use Rattle.table.specs.Tables.{rows_of}
 use Rattle.table.proofs.Writing.{law}
 use Rattle.table.proofs.storing.TableStore.clear.Goals as goal
 
-pub invariant-of-self : goal.invariant-of-self
-invariant-of-self c =
+pub invariant_of-self : goal.invariant_of-self
+invariant_of-self c =
     let self = c.args.self.now in
-    let rows = c.free-all.new.rows in
+    let rows = c.free_all.new.rows in
     let l : length rows ≡ self.rows.len = omega arith in
-    let none = ap objects_in (with_items_is self.rows rows l) ∙ c.free-all.ensures in
+    let none = ap objects_in (with_items_is self.rows rows l) ∙ c.free_all.ensures in
     (sym (ap length none), (∣ rows_cleared_lawful _ self.next.0 none (law self).next_low (law self).next_high ∣₁, tt))
 
 pub returns : goal.returns
 returns c =
     let self = c.args.self.now in
-    let rows = c.free-all.new.rows in
+    let rows = c.free_all.new.rows in
     let l : length rows ≡ self.rows.len = omega arith in
     let i = with_items_is self.rows rows l in
-    rows_cleared (rows_of self) _ self.next.0 (ap length i ∙ l ∙ self.rows.ok.0) (ap objects_in i ∙ c.free-all.ensures)
+    rows_cleared (rows_of self) _ self.next.0 (ap length i ∙ l ∙ self.rows.ok.0) (ap objects_in i ∙ c.free_all.ensures)

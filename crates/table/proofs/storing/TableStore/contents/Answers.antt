@@ -18,5 +18,5 @@ returns c =
     let f = c.in-Some.place in
     let b = c.args.buffer.now in
     let found = c.in-Some.ensures in
-    let same = ap held (at_found x rows f found.1) ∙ sym c.held-held.ensures ∙ sym c.as-slice.ensures in
-    c.copy-front.ensures ∙ read_file (tree_of self) x b c.as-slice.result.now found.0 same
+    let same = ap held (at_found x rows f found.1) ∙ sym c.held-held.ensures ∙ sym c.as_slice.ensures in
+    c.copy_front.ensures ∙ read_file (tree_of self) x b c.as_slice.result.now found.0 same

@@ -2,8 +2,8 @@ use Rattle.std.proofs.Common.{arith}
 use Rattle.table.proofs.Writing.{put_written}
 use Rattle.table.proofs.storing.TableStore.put.Goals as goal
 
-pub invariant-of-self : goal.invariant-of-self
-invariant-of-self c = let w = put_written c.args.self.now c.args.number.0 c.args.contents.now c.args.stamp c.in-Some.place c.in-Some-new.contents c.in-Some.ensures c.in-Some-new.ensures (omega (arith, c.well-formed), omega (arith, c.well-formed)) in (w.counted, (∣ w.lawful ∣₁, tt))
+pub invariant_of-self : goal.invariant_of-self
+invariant_of-self c = let w = put_written c.args.self.now c.args.number.0 c.args.contents.now c.args.stamp c.in-Some.place c.in-Some-new.contents c.in-Some.ensures c.in-Some-new.ensures (omega (arith, c.well-formed), omega (arith, c.well-formed)) in (w.counted, (∣ w.lawful ∣₁, tt))
 
 pub returns : goal.returns
 returns c = (put_written c.args.self.now c.args.number.0 c.args.contents.now c.args.stamp c.in-Some.place c.in-Some-new.contents c.in-Some.ensures c.in-Some-new.ensures (omega (arith, c.well-formed), omega (arith, c.well-formed))).answer

@@ -8,11 +8,14 @@ loop-i-preserved g c =
     let i = c.loop-i.i in
     ap (λ z. set z i (get_or bs i 0)) c.loop-i.invariant ∙ laid_more g.row.N bs i c.loop-i-test.true c.if-len.false
 
-pub invariant-of-result : goal.invariant-of-result
-invariant-of-result g c =
+pub invariant_of-result : goal.invariant_of-result
+invariant_of-result g c =
     let bs = c.args.bytes.now in
     let end : c.loop-i.i ≡ length bs = omega arith in
-    (c.if-len.false, (ap (drop (length bs)) (c.loop-i.invariant ∙ ap (laid g.row.N bs) end) ∙ laid_rest g.row.N bs, tt))
+    record {
+      within = c.if-len.false;
+      filled = ap (drop (length bs)) (c.loop-i.invariant ∙ ap (laid g.row.N bs) end) ∙ laid_rest g.row.N bs;
+    }
 
 pub returns : goal.returns
 returns g c =

@@ -3,5 +3,5 @@ use Rattle.vocab.specs.Names.{name_or_none}
 use Rattle.vocab.proofs.Naming.{unnamed}
 use Rattle.vocab.proofs.name.Name.none.Goals as goal
 
-pub invariant-of-result : goal.invariant-of-result
-invariant-of-result c = (ap name_or_none c.empty.ensures ∙ unnamed, tt)
+pub invariant_of-result : goal.invariant_of-result
+invariant_of-result c = record { sound = ap name_or_none c.empty.ensures ∙ unnamed }

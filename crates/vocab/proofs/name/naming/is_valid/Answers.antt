@@ -7,14 +7,14 @@ use Rattle.vocab.proofs.name.naming.is_valid.Goals as goal
 pub returns-then-name-lt1 : goal.returns-then-name-lt1
 returns-then-name-lt1 c = let n = c.args.name.now in sym (⊎_elim (valid_none n) (λ h. valid_long n h.1) c.then-name-lt1.either)
 
-pub returns-then-not-is-name-byte : goal.returns-then-not-is-name-byte
-returns-then-not-is-name-byte c =
+pub returns-then-not-is_name_byte : goal.returns-then-not-is_name_byte
+returns-then-not-is_name_byte c =
     let n = c.args.name.now in
     let i = c.loop-b.b-index in
-    sym (valid_within n (omega arith) (omega arith) ∙ c.loop-b.invariant ∙ bytes_here n i c.loop-b-test.true (sym c.if-not-is-name-byte.ensures))
+    sym (valid_within n (omega arith) (omega arith) ∙ c.loop-b.invariant ∙ bytes_here n i c.loop-b-test.true (sym c.if-not-is_name_byte.ensures))
 
 pub loop-b-preserved : goal.loop-b-preserved
-loop-b-preserved c = c.loop-b.invariant ∙ bytes_more c.args.name.now c.loop-b.b-index c.loop-b-test.true (sym c.if-not-is-name-byte.ensures)
+loop-b-preserved c = c.loop-b.invariant ∙ bytes_more c.args.name.now c.loop-b.b-index c.loop-b-test.true (sym c.if-not-is_name_byte.ensures)
 
 pub returns : goal.returns
 returns c =
