@@ -31,8 +31,8 @@ impl<'s, 'p, 'r, S: Store> Listing<'s, 'p, 'r, S> {
         store: &'s S,
         path: &'p mut Stack<'r, Number>,
     ) -> Result<Listing<'s, 'p, 'r, S>, Refusal>
-        ensures answer { MatchResult result (λ w. (length (tree store.now).objects ≤ places path.old) × (place_of w ≡ place (places path.old) [] 0) × (w.store.now ≡ store.now)) (λ e. (places path.old < length (tree store.now).objects) × (e ≡ ListShort)) }
-        ensures begins { IfOk result (λ w. Sound (tree store.now) (place_of w) × (left (tree store.now) (place_of w) ≡ listing (tree store.now))) }
+        ensures answer { MatchResult result (λ w. (length (S.tree store.now).objects ≤ places path.old) × (place_of w ≡ place (places path.old) [] 0) × (w.store.now ≡ store.now)) (λ e. (places path.old < length (S.tree store.now).objects) × (e ≡ ListShort)) }
+        ensures begins { IfOk result (λ w. Sound (S.tree store.now) (place_of w) × (left (S.tree store.now) (place_of w) ≡ listing (S.tree store.now))) }
     {
         if path.places() < store.count() {
             return Err(Refusal::ListShort);
@@ -47,10 +47,10 @@ impl<'s, 'p, 'r, S: Store> Listing<'s, 'p, 'r, S> {
 
     // The next number of the listing.
     pub fn next(&mut self) -> Option<Number>
-        ensures place { place_of self.new ≡ (advance (tree self.old.store.now) (place_of self.old)).0 }
-        ensures given { result ≡ numbered (advance (tree self.old.store.now) (place_of self.old)).1 }
+        ensures place { place_of self.new ≡ (advance (S.tree self.old.store.now) (place_of self.old)).0 }
+        ensures given { result ≡ numbered (advance (S.tree self.old.store.now) (place_of self.old)).1 }
         ensures store { self.new.store.now ≡ self.old.store.now }
-        ensures follows { Gives (tree self.old.store.now) (place_of self.old) (values result) (place_of self.new) }
+        ensures follows { Gives (S.tree self.old.store.now) (place_of self.old) (values result) (place_of self.new) }
     {
         loop {
             if let Some(number) = self.store.child(self.directory(), self.after) {
@@ -76,7 +76,7 @@ impl<'s, 'p, 'r, S: Store> Listing<'s, 'p, 'r, S> {
 
     // A directory that has no place on the stack is passed by, as a file is; from a sound place there always is one.
     fn enter(&mut self, number: Number)
-        ensures place { place_of self.new ≡ entered (tree self.old.store.now).objects number.0 (place_of self.old) }
+        ensures place { place_of self.new ≡ entered (S.tree self.old.store.now).objects number.0 (place_of self.old) }
         ensures store { self.new.store.now ≡ self.old.store.now }
     {
         if self.is_directory(number) && self.path.push(number).is_ok() {
@@ -87,7 +87,7 @@ impl<'s, 'p, 'r, S: Store> Listing<'s, 'p, 'r, S> {
     }
 
     fn is_directory(&self, number: Number) -> bool
-        ensures { result ≡ dir_at number.0 (tree self.now.store.now).objects }
+        ensures { result ≡ dir_at number.0 (S.tree self.now.store.now).objects }
     {
         match self.store.object(number) {
             Some(status) => status.kind == Kind::Directory,

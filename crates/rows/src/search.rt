@@ -60,7 +60,7 @@ pub struct Place {
 }
 
 pub fn first<T: Test>(rows: &[Row], test: &T) -> Option<Place>
-    ensures { Searched (passes test.now) rows.now result }
+    ensures { Searched (T.passes test.now) rows.now result }
 {
     for (i, row) in rows.iter().enumerate() {
         match row {
