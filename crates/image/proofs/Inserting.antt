@@ -15,7 +15,7 @@ use Rattle.format.specs.Layout.{entry_size, least_size, raised}
 use Rattle.format.proofs.Changing.{Kept, inserted}
 use Rattle.format.proofs.Holding.{count_objects, enough, room_for}
 use Rattle.image.specs.Searches.{Located, nothing}
-use Rattle.image.specs.Stores.{bytes_of, sections_of, tree_of}
+use Rattle.image.specs.Stores.{bytes_of, store_sections, tree_of}
 use Rattle.image.specs.declared.Image.{Image}
 use Rattle.image.proofs.Finding.{stands}
 use Rattle.image.proofs.Standing.{law, place_low}
@@ -30,7 +30,7 @@ fresh_kind Directory p n x e = refl
 fresh_kind File p n x e = refl
 
 module _ (s : Image) (k : Kind) (p : ℕ) (m : List ℕ) (x : ℕ) (e : Stamp) (free : is_some (at x (tree_of s).objects) ≡ false) where
-  pub taken_number : (i : ℕ) → Located x (section k (sections_of s)) (Ok i) → ⊥
+  pub taken_number : (i : ℕ) → Located x (section k (store_sections s)) (Ok i) → ⊥
   taken_number i h = let z = both_ways _ free (ap is_some (stands (tree_of s) (law s) x k i h).here) in z
 
   module _ (room : length (tree_of s).objects < (tree_of s).capacity) where
@@ -38,16 +38,16 @@ module _ (s : Image) (k : Kind) (p : ℕ) (m : List ℕ) (x : ℕ) (e : Stamp) (
     unfolding tree_of
     less = omega (arith, count_objects (bytes_of s) s.next.0 s.directories s.files)
 
-    pub room_behind : size (sections_of s) + entry_size k ≤ length (bytes_of s)
+    pub room_behind : size (store_sections s) + entry_size k ≤ length (bytes_of s)
     unfolding tree_of
     room_behind = room_for (bytes_of s) s.next.0 s.directories s.files (law s) s.held k less
 
     pub entered
         : Lawful (with_objects (tree_of s) (insert (fresh k p m x e) (tree_of s).objects))
-        → (i : ℕ) → Located x (section k (sections_of s)) (Err i)
+        → (i : ℕ) → Located x (section k (store_sections s)) (Err i)
         → (cs : List ℕ) → length cs ≡ length (bytes_of s)
-        → (at end c : ℕ) → at ≡ section_at k (sections_of s) + entry_size k * i → end ≡ size (sections_of s) → c ≡ length (section k (sections_of s)) + 1
-        → cs ≡ written (written (opened (bytes_of s) at end (entry_size k)) at (entry_bytes k (fresh k p m x e))) (section_at k (sections_of s) - 2) (le16 c)
+        → (at end c : ℕ) → at ≡ section_at k (store_sections s) + entry_size k * i → end ≡ size (store_sections s) → c ≡ length (section k (store_sections s)) + 1
+        → cs ≡ written (written (opened (bytes_of s) at end (entry_size k)) at (entry_bytes k (fresh k p m x e))) (section_at k (store_sections s) - 2) (le16 c)
         → Kept cs s.next.0 (raised k s.directories s.files).0 (raised k s.directories s.files).1 (with_objects (tree_of s) (insert (fresh k p m x e) (tree_of s).objects))
     unfolding tree_of
     entered lawful i h cs long at end c at-is end_is c-is is =
@@ -58,9 +58,9 @@ module _ (s : Image) (k : Kind) (p : ℕ) (m : List ℕ) (x : ℕ) (e : Stamp) (
     -- the gap, the entry and the count, one after another
     pub entered_by
         : Lawful (with_objects (tree_of s) (insert (fresh k p m x e) (tree_of s).objects))
-        → (i : ℕ) → Located x (section k (sections_of s)) (Err i)
-        → (w start at end n : ℕ) → w ≡ entry_size k → start ≡ section_at k (sections_of s)
-        → at ≡ section_at k (sections_of s) + entry_size k * i → end ≡ size (sections_of s) → n ≡ length (section k (sections_of s))
+        → (i : ℕ) → Located x (section k (store_sections s)) (Err i)
+        → (w start at end n : ℕ) → w ≡ entry_size k → start ≡ section_at k (store_sections s)
+        → at ≡ section_at k (store_sections s) + entry_size k * i → end ≡ size (store_sections s) → n ≡ length (section k (store_sections s))
         → (b₀ b₁ b₂ cs field : List ℕ) → b₀ ≡ bytes_of s → b₁ ≡ opened b₀ at end w → b₂ ≡ written b₁ at (entry_bytes k (fresh k p m x e))
         → field ≡ le16 (n + 1) → cs ≡ written b₂ (start - 2) field → length cs ≡ length (bytes_of s)
         → Kept cs s.next.0 (raised k s.directories s.files).0 (raised k s.directories s.files).1 (with_objects (tree_of s) (insert (fresh k p m x e) (tree_of s).objects))

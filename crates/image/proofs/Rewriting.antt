@@ -17,7 +17,7 @@ use Rattle.format.proofs.Holding.{begins_here, enough, few, some}
 use Rattle.format.proofs.Lengths.{entry_within, length_contents, length_le32, length_name, length_stamp}
 use Rattle.image.specs.Places.{Stands, found}
 use Rattle.image.specs.Searches.{nothing}
-use Rattle.image.specs.Stores.{bytes_of, sections_of, tree_of}
+use Rattle.image.specs.Stores.{bytes_of, store_sections, tree_of}
 use Rattle.image.specs.declared.Image.{Image}
 use Rattle.image.specs.declared.place.Place.{Place}
 use Rattle.image.proofs.Finding.{stands}
@@ -27,12 +27,12 @@ pub head_low : (k : Kind) → head_size ≤ entry_size k
 head_low Directory = lit≤ tt
 head_low File = lit≤ tt
 
-module _ (s : Image) (p : Place) (within : p.index < length (section p.kind (sections_of s))) where
+module _ (s : Image) (p : Place) (within : p.index < length (section p.kind (store_sections s))) where
   pub own : Stands (found (tree_of s) p).number (tree_of s) p
   own = stands (tree_of s) (law s) (found (tree_of s) p).number p.kind p.index (within, refl)
 
   -- the entry lies within the bytes
-  pub entry_held : section_at p.kind (sections_of s) + entry_size p.kind * p.index + entry_size p.kind ≤ size (sections_of s)
+  pub entry_held : section_at p.kind (store_sections s) + entry_size p.kind * p.index + entry_size p.kind ≤ size (store_sections s)
   entry_held =
       let more = place_low s p.kind (p.index + 1) (omega arith) in
       omega (arith, mul-add (entry_size p.kind) p.index 1)
@@ -43,7 +43,7 @@ module _ (s : Image) (p : Place) (within : p.index < length (section p.kind (sec
       enough (bytes_of s) s.next.0 s.directories s.files (law s) s.held
       (omega (arith, some (bytes_of s) s.next.0 s.directories s.files (law s) s.held p.kind p.index within, few (bytes_of s) s.next.0 s.directories s.files (law s) s.held))
 
-  module _ (cs : List ℕ) (long : length cs ≡ length (bytes_of s)) (at : ℕ) (at-is : at ≡ section_at p.kind (sections_of s) + entry_size p.kind * p.index) where
+  module _ (cs : List ℕ) (long : length cs ≡ length (bytes_of s)) (at : ℕ) (at-is : at ≡ section_at p.kind (store_sections s) + entry_size p.kind * p.index) where
     pub overwritten
         : p.kind ≡ File → (c : List ℕ) (e : Stamp)
         → Lawful (with_objects (tree_of s) (change (found (tree_of s) p).number (with_contents c e) (tree_of s).objects))
@@ -86,7 +86,7 @@ module _ (s : Image) (p : Place) (within : p.index < length (section p.kind (sec
 
     pub gone
         : Lawful (with_objects (tree_of s) (without (found (tree_of s) p).number (tree_of s).objects))
-        → (w start end n : ℕ) → w ≡ entry_size p.kind → start ≡ section_at p.kind (sections_of s) → end ≡ size (sections_of s) → n ≡ length (section p.kind (sections_of s))
+        → (w start end n : ℕ) → w ≡ entry_size p.kind → start ≡ section_at p.kind (store_sections s) → end ≡ size (store_sections s) → n ≡ length (section p.kind (store_sections s))
         → (b₀ b₁ field : List ℕ) → b₀ ≡ bytes_of s → b₁ ≡ closed b₀ at end w → field ≡ le16 (n - 1) → cs ≡ written b₁ (start - 2) field
         → Kept cs s.next.0 (lowered p.kind s.directories s.files).0 (lowered p.kind s.directories s.files).1 (with_objects (tree_of s) (without (found (tree_of s) p).number (tree_of s).objects))
     unfolding tree_of

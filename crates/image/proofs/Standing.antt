@@ -9,7 +9,7 @@ use Rattle.format.specs.Layout.{capacity_in, entry_size, most_objects}
 use Rattle.format.proofs.Cutting.{begins_long}
 use Rattle.format.proofs.Holding.{begins_here, capacity_most, count_directories, count_files, few}
 use Rattle.format.proofs.Lengths.{entry_within}
-use Rattle.image.specs.Stores.{bytes_of, sections_of, tree_of}
+use Rattle.image.specs.Stores.{bytes_of, store_sections, tree_of}
 use Rattle.image.specs.declared.Image.{Image}
 
 module _ (s : Image) where
@@ -17,11 +17,11 @@ module _ (s : Image) where
   unfolding tree_of
   law = untold (tree_of s) s.lawful
 
-  pub directories_are : length (sections_of s).directories ≡ s.directories
+  pub directories_are : length (store_sections s).directories ≡ s.directories
   unfolding tree_of
   directories_are = count_directories (bytes_of s) s.next.0 s.directories s.files
 
-  pub files_are : length (sections_of s).files ≡ s.files
+  pub files_are : length (store_sections s).files ≡ s.files
   unfolding tree_of
   files_are = count_files (bytes_of s) s.next.0 s.directories s.files
 
@@ -30,17 +30,17 @@ module _ (s : Image) where
   at_most = omega (arith, few (bytes_of s) s.next.0 s.directories s.files law s.held, capacity_most (length (bytes_of s)))
 
   -- the place of an entry, or of one more
-  pub place_low : (k : Kind) (i : ℕ) → i ≤ length (section k (sections_of s)) → section_at k (sections_of s) + entry_size k * i ≤ size (sections_of s)
+  pub place_low : (k : Kind) (i : ℕ) → i ≤ length (section k (store_sections s)) → section_at k (store_sections s) + entry_size k * i ≤ size (store_sections s)
   place_low Directory i h = omega arith
   place_low File i h = omega arith
 
-  pub size_low : size (sections_of s) ≤ 1300000
+  pub size_low : size (store_sections s) ≤ 1300000
   size_low = omega (arith, at_most, directories_are, files_are)
 
-  pub place_held : (k : Kind) (i : ℕ) → i < length (section k (sections_of s)) → size (sections_of s) ≤ length (bytes_of s)
+  pub place_held : (k : Kind) (i : ℕ) → i < length (section k (store_sections s)) → size (store_sections s) ≤ length (bytes_of s)
   unfolding tree_of
-  place_held k i h = begins_long (bytes_of s) (sections_of s) (begins_here (bytes_of s) s.next.0 s.directories s.files law s.held k i h)
+  place_held k i h = begins_long (bytes_of s) (store_sections s) (begins_here (bytes_of s) s.next.0 s.directories s.files law s.held k i h)
 
-  pub count_low : (k : Kind) → length (section k (sections_of s)) ≤ most_objects
+  pub count_low : (k : Kind) → length (section k (store_sections s)) ≤ most_objects
   count_low Directory = omega (arith, at_most, directories_are)
   count_low File = omega (arith, at_most, files_are)

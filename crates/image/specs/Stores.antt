@@ -1,7 +1,7 @@
 -- What an image store stands for. Assumes nothing.
 --     bytes_of s       the bytes that it owns
 --     tree_of s        the tree that they stand for
---     sections_of s    the sections of that tree
+--     store_sections s    the sections of that tree
 --     spare_of s       its bytes, where they are too few for an image
 use Rattle.std.specs.Prelude.{ℕ, cond, List, [], length, vec_items, nat_lt}
 use Rattle.tree.specs.Trees.{Tree}
@@ -15,8 +15,8 @@ bytes_of s = vec_items s.bytes
 unfoldable pub tree_of : Image → Tree
 tree_of s = tree_in (bytes_of s) s.next.0 s.directories s.files
 
-abbrev pub sections_of : Image → Sections
-sections_of s = sections_of (tree_of s)
+abbrev pub store_sections : Image → Sections
+store_sections s = sections_of (tree_of s)
 
 unfoldable pub spare_of : Image → List ℕ
 spare_of s = cond (nat_lt (length (bytes_of s)) least_size) (bytes_of s) []

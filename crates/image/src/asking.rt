@@ -71,7 +71,7 @@ impl Image {
 
     // The first directory or, where there is none, the first file that passes a test.
     pub(crate) fn find_first<T: Test>(&self, test: &T) -> Option<Place>
-        ensures { Picked (λ o. passes test.now o.number o.parent o.name) (tree_of self.now) result }
+        ensures { Picked (λ o. T.passes test.now o.number o.parent o.name) (tree_of self.now) result }
     {
         if let Some(index) = self.first(Kind::Directory, test) {
             return Some(Place {

@@ -7,7 +7,7 @@ ghost use Rattle.tree.specs.Questions.{is_some};
 ghost use Rattle.tree.specs.Trees.{at, change, insert, with_objects, without};
 ghost use Rattle.format.specs.Images.{section};
 ghost use Rattle.image.specs.Places.{found};
-ghost use Rattle.image.specs.Stores.{sections_of, spare_of, tree_of};
+ghost use Rattle.image.specs.Stores.{store_sections, spare_of, tree_of};
 
 use crate::Image;
 use crate::entry::{
@@ -58,7 +58,7 @@ impl Image {
     // Other contents and another stamp for the file at a place.
     pub(crate) fn overwrite(&mut self, place: Place, contents: &Contents, stamp: Stamp)
         requires kind { place.kind ≡ Kind.File }
-        requires within { place.index < length (section place.kind (sections_of self.old)) }
+        requires within { place.index < length (section place.kind (store_sections self.old)) }
         requires lawful { Lawful (with_objects (tree_of self.old) (change (found (tree_of self.old) place).number (with_contents (contents_of contents.now) stamp) (tree_of self.old).objects)) }
         ensures tree { tree_of self.new ≡ with_objects (tree_of self.old) (change (found (tree_of self.old) place).number (with_contents (contents_of contents.now) stamp) (tree_of self.old).objects) }
         ensures spare { spare_of self.new ≡ spare_of self.old }
@@ -71,7 +71,7 @@ impl Image {
 
     // Another parent and name for the object at a place.
     pub(crate) fn replace(&mut self, place: Place, parent: Number, name: &Name)
-        requires within { place.index < length (section place.kind (sections_of self.old)) }
+        requires within { place.index < length (section place.kind (store_sections self.old)) }
         requires lawful { Lawful (with_objects (tree_of self.old) (change (found (tree_of self.old) place).number (with_place parent.0 (name_of name.now)) (tree_of self.old).objects)) }
         ensures tree { tree_of self.new ≡ with_objects (tree_of self.old) (change (found (tree_of self.old) place).number (with_place parent.0 (name_of name.now)) (tree_of self.old).objects) }
         ensures spare { spare_of self.new ≡ spare_of self.old }
@@ -84,7 +84,7 @@ impl Image {
 
     // The object at a place goes.
     pub(crate) fn remove(&mut self, place: Place)
-        requires within { place.index < length (section place.kind (sections_of self.old)) }
+        requires within { place.index < length (section place.kind (store_sections self.old)) }
         requires lawful { Lawful (with_objects (tree_of self.old) (without (found (tree_of self.old) place).number (tree_of self.old).objects)) }
         ensures tree { tree_of self.new ≡ with_objects (tree_of self.old) (without (found (tree_of self.old) place).number (tree_of self.old).objects) }
         ensures spare { spare_of self.new ≡ spare_of self.old }

@@ -6,7 +6,7 @@ ghost use Rattle.format.specs.Images.{section, section_at, size};
 ghost use Rattle.format.specs.Layout.{entry_size, raised, lowered};
 ghost use Rattle.format.specs.Reading.{Shows};
 ghost use Rattle.image.specs.Searches.{nothing};
-ghost use Rattle.image.specs.Stores.{sections_of, tree_of};
+ghost use Rattle.image.specs.Stores.{store_sections, tree_of};
 
 use crate::Image;
 use crate::entry::{FILE_SIZE, HEAD_SIZE, size_of};
@@ -19,7 +19,7 @@ pub(crate) const BARE_SIZE: usize = 8;
 
 impl Image {
     pub(crate) fn count_of(&self, kind: Kind) -> usize
-        ensures { result ≡ length (section kind (sections_of self.now)) }
+        ensures { result ≡ length (section kind (store_sections self.now)) }
     {
         match kind {
             Kind::Directory => self.directories,
@@ -39,7 +39,7 @@ impl Image {
 
     // The counts of directories and of files, with one less of a kind.
     pub(crate) fn counts_without(&self, kind: Kind) -> (usize, usize)
-        requires { 0 < length (section kind (sections_of self.now)) }
+        requires { 0 < length (section kind (store_sections self.now)) }
         ensures { result ≡ lowered kind self.now.directories self.now.files }
     {
         match kind {
@@ -50,7 +50,7 @@ impl Image {
 
     // Where the entries of a kind begin; their count stands before them.
     pub(crate) fn start_of(&self, kind: Kind) -> usize
-        ensures { result ≡ section_at kind (sections_of self.now) }
+        ensures { result ≡ section_at kind (store_sections self.now) }
     {
         match kind {
             Kind::Directory => DIRECTORIES,
@@ -60,23 +60,23 @@ impl Image {
 
     // Where the image ends.
     pub(crate) fn end(&self) -> usize
-        ensures { result ≡ size (sections_of self.now) }
+        ensures { result ≡ size (store_sections self.now) }
     {
         BARE_SIZE + HEAD_SIZE * self.directories + FILE_SIZE * self.files
     }
 
     // Where an entry stands, or one more would.
     pub(crate) fn place_of(&self, kind: Kind, index: usize) -> usize
-        requires { index ≤ length (section kind (sections_of self.now)) }
-        ensures { result ≡ section_at kind (sections_of self.now) + entry_size kind * index }
+        requires { index ≤ length (section kind (store_sections self.now)) }
+        ensures { result ≡ section_at kind (store_sections self.now) + entry_size kind * index }
     {
         self.start_of(kind) + size_of(kind) * index
     }
 
     // An entry, and what stands behind it.
     pub(crate) fn entry(&self, kind: Kind, index: usize) -> &[u8]
-        requires { index < length (section kind (sections_of self.now)) }
-        ensures { Shows kind (slice_index_or (section kind (sections_of self.now)) index nothing) result.now }
+        requires { index < length (section kind (store_sections self.now)) }
+        ensures { Shows kind (slice_index_or (section kind (store_sections self.now)) index nothing) result.now }
     {
         let all = self.bytes.as_slice();
         &all[self.place_of(kind, index)..]

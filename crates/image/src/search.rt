@@ -3,7 +3,7 @@ ghost use Rattle.std.specs.Prelude.{◌≡◌, ℕ, Bool, ◌&&◌, List, ◌==�
 ghost use Rattle.vocab.specs.Names.{same_name};
 ghost use Rattle.format.specs.Images.{section};
 ghost use Rattle.image.specs.Searches.{First, Located};
-ghost use Rattle.image.specs.Stores.{sections_of};
+ghost use Rattle.image.specs.Stores.{store_sections};
 
 use crate::Image;
 use crate::entry::size_of;
@@ -63,7 +63,7 @@ impl Test for Follows {
 
 impl Image {
     pub(crate) fn first<T: Test>(&self, kind: Kind, test: &T) -> Option<usize>
-        ensures { First (λ o. passes test.now o.number o.parent o.name) (section kind (sections_of self.now)) result }
+        ensures { First (λ o. T.passes test.now o.number o.parent o.name) (section kind (store_sections self.now)) result }
     {
         for i in 0..self.count_of(kind) {
             let head = self.head(kind, i);
@@ -76,7 +76,7 @@ impl Image {
 
     // The place of a number, or the place where it would stand.
     pub(crate) fn search(&self, kind: Kind, number: Number) -> Result<usize, usize>
-        ensures { Located number.0 (section kind (sections_of self.now)) result }
+        ensures { Located number.0 (section kind (store_sections self.now)) result }
     {
         let mut low = 0;
         let mut high = self.count_of(kind);

@@ -3,7 +3,7 @@ ghost use Rattle.std.specs.Prelude.{◌<◌, length, slice_index_or};
 ghost use Rattle.format.specs.Images.{section};
 ghost use Rattle.image.specs.Heads.{Heads};
 ghost use Rattle.image.specs.Searches.{nothing};
-ghost use Rattle.image.specs.Stores.{sections_of};
+ghost use Rattle.image.specs.Stores.{store_sections};
 
 use crate::Image;
 use crate::entry::{NAME, NAME_LENGTH, PARENT};
@@ -14,8 +14,8 @@ use vocab::number::Number;
 
 impl Image {
     pub(crate) fn head(&self, kind: Kind, index: usize) -> Head
-        requires { index < length (section kind (sections_of self.now)) }
-        ensures { Heads (slice_index_or (section kind (sections_of self.now)) index nothing) result }
+        requires { index < length (section kind (store_sections self.now)) }
+        ensures { Heads (slice_index_or (section kind (store_sections self.now)) index nothing) result }
     {
         let entry = self.entry(kind, index);
         let len = entry[NAME_LENGTH] as usize;

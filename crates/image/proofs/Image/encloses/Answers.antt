@@ -15,11 +15,11 @@ returns-then-here-number c =
     let x = c.args.number.0 in
     sym (ap (λ k. climbs k x c.args.from.0 l) (sym c.room-i-end.ensures) ∙ c.loop-i.invariant ∙ climb_here c.room-i-end.result c.loop-i.i x c.loop-i.here.0 l c.if-here-number.true)
 
-pub returns-in-default : goal.returns-in-default
-returns-in-default c =
+pub returns-in_default : goal.returns-in_default
+returns-in_default c =
     let l = (tree_of c.args.self.now).objects in
     let x = c.args.number.0 in
-    sym (ap (λ k. climbs k x c.args.from.0 l) (sym c.room-i-end.ensures) ∙ c.loop-i.invariant ∙ climb_stop c.room-i-end.result c.loop-i.i x c.loop-i.here.0 l c.loop-i-test.true c.if-here-number.false c.in-default.ensures)
+    sym (ap (λ k. climbs k x c.args.from.0 l) (sym c.room-i-end.ensures) ∙ c.loop-i.invariant ∙ climb_stop c.room-i-end.result c.loop-i.i x c.loop-i.here.0 l c.loop-i-test.true c.if-here-number.false c.in_default.ensures)
 
 pub loop-i-preserved : goal.loop-i-preserved
 loop-i-preserved c =

@@ -2,14 +2,14 @@ use Rattle.std.proofs.Common.{arith}
 use Rattle.image.proofs.Standing.{at_most, directories_are, files_are}
 use Rattle.image.proofs.Image.end.Goals as goal
 
-pub overflow-mul-result : goal.overflow-mul-result
-overflow-mul-result c = omega (arith, at_most c.args.self.now)
+pub overflow_mul-result : goal.overflow_mul-result
+overflow_mul-result c = omega (arith, at_most c.args.self.now)
 
 pub overflow_add-result : goal.overflow_add-result
 overflow_add-result c = omega (arith, at_most c.args.self.now)
 
-pub overflow-mul-result-2 : goal.overflow-mul-result-2
-overflow-mul-result-2 c = omega (arith, at_most c.args.self.now)
+pub overflow_mul-result-2 : goal.overflow_mul-result-2
+overflow_mul-result-2 c = omega (arith, at_most c.args.self.now)
 
 pub overflow_add-result-2 : goal.overflow_add-result-2
 overflow_add-result-2 c = omega (arith, at_most c.args.self.now)

@@ -4,7 +4,7 @@ use Rattle.format.specs.Images.{section}
 use Rattle.format.specs.Reading.{Shows}
 use Rattle.format.proofs.Holding.{entry_shown}
 use Rattle.image.specs.Searches.{nothing}
-use Rattle.image.specs.Stores.{bytes_of, sections_of, tree_of}
+use Rattle.image.specs.Stores.{bytes_of, store_sections, tree_of}
 use Rattle.image.proofs.Standing.{law, place_held, place_low}
 use Rattle.image.proofs.Image.entry.Goals as goal
 
@@ -30,4 +30,4 @@ returns c =
     let shown = entry_shown (bytes_of s) s.next.0 s.directories s.files (law s) s.held k c.args.index c.requires nothing in
     let at = sym c.place_of.ensures in
     let bytes = sym c.as_slice-all.ensures.value in
-    subst (Shows k (get_or (section k (sections_of s)) c.args.index nothing)) ((λ i. drop (at i) (bytes i)) ∙ sym same) shown
+    subst (Shows k (get_or (section k (store_sections s)) c.args.index nothing)) ((λ i. drop (at i) (bytes i)) ∙ sym same) shown

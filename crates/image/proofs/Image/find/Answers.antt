@@ -14,4 +14,4 @@ pub returns-in-Err : goal.returns-in-Err
 returns-in-Err c =
     let s = c.args.self.now in
     let none = absent (tree_of s) (law s) c.args.number.0 in
-    nowhere (tree_of s) (law s) c.args.number.0 (none Directory c.in-default.field-0 c.in-default.ensures) (none File c.in-Err.field-0 c.in-Err.ensures)
+    nowhere (tree_of s) (law s) c.args.number.0 (none Directory c.in_default.field-0 c.in_default.ensures) (none File c.in-Err.field-0 c.in-Err.ensures)

@@ -11,13 +11,13 @@ returns-in-Some g c =
     let q : Object → Bool = λ o. g.T.Test.passes c.args.test.now o.number o.parent o.name in
     picked (tree_of c.args.self.now) q Directory c.in-Some.index c.in-Some.ensures
 
-pub returns-in-err-index : goal.returns-in-err-index
-returns-in-err-index g c =
+pub returns-in_err-index : goal.returns-in_err-index
+returns-in_err-index g c =
     let t = tree_of c.args.self.now in
     let q : Object → Bool = λ o. g.T.Test.passes c.args.test.now o.number o.parent o.name in
-    subst (Picked q t) (sym c.from-residual.ensures) (unpicked t q c.in-default.ensures c.in-err-index.ensures)
+    subst (Picked q t) (sym c.from_residual.ensures) (unpicked t q c.in_default.ensures c.in_err-index.ensures)
 
 pub returns : goal.returns
 returns g c =
     let q : Object → Bool = λ o. g.T.Test.passes c.args.test.now o.number o.parent o.name in
-    picked (tree_of c.args.self.now) q File c.in-ok-index.index c.in-ok-index.ensures
+    picked (tree_of c.args.self.now) q File c.in_ok-index.index c.in_ok-index.ensures

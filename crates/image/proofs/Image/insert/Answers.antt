@@ -12,9 +12,9 @@ use Rattle.image.proofs.Standing.{count_low, place_low}
 use Rattle.image.proofs.Storing.{held_after, lawful_after, spare_after, tree_after}
 use Rattle.image.proofs.Image.insert.Goals as goal
 
-pub returns-in-default : goal.returns-in-default
-returns-in-default c =
-    absurd (taken_number c.args.self.now c.args.kind c.args.parent.0 (name_of c.args.name.now) c.args.number.0 c.args.stamp c.requires.free c.in-default.field-0 c.in-default.ensures)
+pub returns-in_default : goal.returns-in_default
+returns-in_default c =
+    absurd (taken_number c.args.self.now c.args.kind c.args.parent.0 (name_of c.args.name.now) c.args.number.0 c.args.stamp c.requires.free c.in_default.field-0 c.in_default.ensures)
 
 pub open_gap-requires : goal.open_gap-requires
 open_gap-requires c =
@@ -30,8 +30,8 @@ write_entry-requires c =
     let room = room_behind s k c.args.parent.0 (name_of c.args.name.now) c.args.number.0 c.args.stamp c.requires.free c.requires.room in
     omega (arith, place_low s k c.in-Err.index c.in-Err.ensures.0, ap length c.as_mut_slice-bytes.ensures.value)
 
-pub overflow-cast-count : goal.overflow-cast-count
-overflow-cast-count c = omega (arith, count_low c.args.self.now c.args.kind)
+pub overflow_cast-count : goal.overflow_cast-count
+overflow_cast-count c = omega (arith, count_low c.args.self.now c.args.kind)
 
 pub write-requires : goal.write-requires
 write-requires c =
@@ -55,7 +55,7 @@ invariant_of-self c =
     c.as_mut_slice-bytes.ensures.value c.open_gap.ensures c.write_entry.ensures c.to_le_bytes.ensures c.write.ensures (long ∙ s.bytes.ok.0) in
     let kept : Kept c.write.new.bytes s.next.0 c.counts_with-directories.result.0 c.counts_with-directories.result.1 u =
     subst (λ r. Kept c.write.new.bytes s.next.0 r.0 r.1 u) counts made in
-    (lawful_after s c.write.new.bytes long _ _ _ u kept, (held_after s c.write.new.bytes long _ _ _ u kept, tt))
+    record { lawful = lawful_after s c.write.new.bytes long _ _ _ u kept; held = held_after s c.write.new.bytes long _ _ _ u kept }
 
 pub returns : goal.returns
 unfolding le16 tree_of spare_of

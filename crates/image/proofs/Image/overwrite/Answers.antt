@@ -52,7 +52,7 @@ invariant_of-self c =
     let kept =
     overwritten s p c.requires.within cs (long ∙ s.bytes.ok.0) c.place_of-at.result c.place_of-at.ensures c.requires.kind (contents_of c.args.contents.now) c.args.stamp c.requires.lawful
     c.as_mut_slice-bytes.result.now c.write_stamp.new.bytes c.as_mut_slice-bytes.ensures.value c.write_stamp.ensures c.write_contents.ensures in
-    (lawful_after s cs long _ _ _ u kept, (held_after s cs long _ _ _ u kept, tt))
+    record { lawful = lawful_after s cs long _ _ _ u kept; held = held_after s cs long _ _ _ u kept }
 
 pub returns : goal.returns
 unfolding tree_of spare_of

@@ -2,8 +2,8 @@ use Rattle.std.proofs.Common.{◌≡◌, ◌*◌, ap, arith}
 use Rattle.image.proofs.Standing.{place_low, size_low}
 use Rattle.image.proofs.Image.place_of.Goals as goal
 
-pub overflow-mul-result : goal.overflow-mul-result
-overflow-mul-result c =
+pub overflow_mul-result : goal.overflow_mul-result
+overflow_mul-result c =
     let s = c.args.self.now in
     omega (arith, ap (λ w. w * c.args.index) c.size_of.ensures, place_low s c.args.kind c.args.index c.requires, size_low s)
 

@@ -17,8 +17,8 @@ close_gap-requires c =
     let long = place_held s p.kind p.index c.requires.within in
     (omega (arith, c.place_of-at.ensures, c.size_of-size.ensures, c.end-end.ensures), omega (arith, c.end-end.ensures, c.as_mut_slice-bytes.ensures.len, s.bytes.ok.0))
 
-pub overflow-cast-count : goal.overflow-cast-count
-overflow-cast-count c = omega (arith, count_low c.args.self.now c.args.place.kind)
+pub overflow_cast-count : goal.overflow_cast-count
+overflow_cast-count c = omega (arith, count_low c.args.self.now c.args.place.kind)
 
 pub write-requires : goal.write-requires
 write-requires c =
@@ -44,7 +44,7 @@ invariant_of-self c =
     c.as_mut_slice-bytes.result.now c.close_gap.new.bytes c.to_le_bytes.result c.as_mut_slice-bytes.ensures.value c.close_gap.ensures c.to_le_bytes.ensures c.write.ensures in
     let kept : Kept cs s.next.0 c.counts_without-directories.result.0 c.counts_without-directories.result.1 u =
     subst (λ r. Kept cs s.next.0 r.0 r.1 u) counts made in
-    (lawful_after s cs long _ _ _ u kept, (held_after s cs long _ _ _ u kept, tt))
+    record { lawful = lawful_after s cs long _ _ _ u kept; held = held_after s cs long _ _ _ u kept }
 
 pub returns : goal.returns
 unfolding le16 tree_of spare_of

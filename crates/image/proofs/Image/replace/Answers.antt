@@ -53,7 +53,7 @@ invariant_of-self c =
     let kept =
     replaced s p c.requires.within cs (long ∙ s.bytes.ok.0) c.place_of-at.result c.place_of-at.ensures c.args.parent.0 (name_of c.args.name.now) c.requires.lawful
     c.as_mut_slice-bytes.result.now c.write.new.bytes c.to_le_bytes.result c.as_mut_slice-bytes.ensures.value c.to_le_bytes.ensures c.write.ensures c.write_name.ensures in
-    (lawful_after s cs long _ _ _ u kept, (held_after s cs long _ _ _ u kept, tt))
+    record { lawful = lawful_after s cs long _ _ _ u kept; held = held_after s cs long _ _ _ u kept }
 
 pub returns : goal.returns
 unfolding le32 tree_of spare_of

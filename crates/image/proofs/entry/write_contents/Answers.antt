@@ -8,8 +8,8 @@ use Rattle.format.proofs.Lengths.{length_padded}
 use Rattle.format.proofs.Writing.{then}
 use Rattle.image.proofs.entry.write_contents.Goals as goal
 
-pub overflow-cast-len : goal.overflow-cast-len
-overflow-cast-len c =
+pub overflow_cast-len : goal.overflow_cast-len
+overflow_cast-len c =
     let b = c.args.contents.now in
     omega (arith, ap length c.as_slice.ensures, length-take b.len b.held, b.within)
 

@@ -8,8 +8,8 @@ use Rattle.format.proofs.Lengths.{length_padded}
 use Rattle.format.proofs.Writing.{then}
 use Rattle.image.proofs.entry.write_name.Goals as goal
 
-pub overflow-cast-as_bytes : goal.overflow-cast-as_bytes
-overflow-cast-as_bytes c =
+pub overflow_cast-as_bytes : goal.overflow_cast-as_bytes
+overflow_cast-as_bytes c =
     let n = c.args.name.now.text in
     omega (arith, ap length c.as_bytes.ensures, length-take n.len n.held, n.within)
 

@@ -16,12 +16,12 @@ returns-then-here-number c =
     let x = c.args.number.0 in
     sym (ap (λ k. climbs k x c.args.from.0 l) (sym c.room-i-end.ensures) ∙ c.loop-i.invariant ∙ climb_here c.room-i-end.result c.loop-i.i x c.loop-i.here.0 l c.if-here-number.true)
 
-pub returns-in-default : goal.returns-in-default
-returns-in-default c =
+pub returns-in_default : goal.returns-in_default
+returns-in_default c =
     let rows = rows_of c.args.self.now in
     let x = c.args.number.0 in
     let p = c.loop-i.here.0 in
-    sym (ap (λ k. climbs k x c.args.from.0 (objects_in rows)) (sym c.room-i-end.ensures) ∙ c.loop-i.invariant ∙ climb_stop c.room-i-end.result c.loop-i.i x p (objects_in rows) c.loop-i-test.true c.if-here-number.false (at_nowhere p rows c.in-default.ensures.place))
+    sym (ap (λ k. climbs k x c.args.from.0 (objects_in rows)) (sym c.room-i-end.ensures) ∙ c.loop-i.invariant ∙ climb_stop c.room-i-end.result c.loop-i.i x p (objects_in rows) c.loop-i-test.true c.if-here-number.false (at_nowhere p rows c.in_default.ensures.place))
 
 pub loop-i-preserved : goal.loop-i-preserved
 loop-i-preserved c =

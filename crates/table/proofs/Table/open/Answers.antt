@@ -9,7 +9,7 @@ invariant_of-result c =
     let rows = c.free_all.new.rows in
     let l : length rows ≡ c.args.rows.len = omega arith in
     let none = ap objects_in (with_items_is c.args.rows rows l) ∙ c.free_all.ensures in
-    (sym (ap length none), (∣ rows_cleared_lawful _ 2 none (omega arith) (omega arith) ∣₁, tt))
+    record { counted = sym (ap length none); lawful = ∣ rows_cleared_lawful _ 2 none (omega arith) (omega arith) ∣₁ }
 
 pub returns : goal.returns
 returns c =

@@ -12,7 +12,7 @@ invariant_of-self c =
     let rows = c.free_all.new.rows in
     let l : length rows ≡ self.rows.len = omega arith in
     let none = ap objects_in (with_items_is self.rows rows l) ∙ c.free_all.ensures in
-    (sym (ap length none), (∣ rows_cleared_lawful _ self.next.0 none (law self).next_low (law self).next_high ∣₁, tt))
+    record { counted = sym (ap length none); lawful = ∣ rows_cleared_lawful _ self.next.0 none (law self).next_low (law self).next_high ∣₁ }
 
 pub returns : goal.returns
 returns c =

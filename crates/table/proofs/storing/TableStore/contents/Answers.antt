@@ -5,10 +5,10 @@ use Rattle.tree.proofs.Answering.{read_absent, read_file}
 use Rattle.rows.proofs.Holding.{at_found}
 use Rattle.table.proofs.storing.TableStore.contents.Goals as goal
 
-pub returns-in-default : goal.returns-in-default
-returns-in-default c =
+pub returns-in_default : goal.returns-in_default
+returns-in_default c =
     let self = c.args.self.now in
-    read_absent (tree_of self) c.args.number.0 c.args.buffer.now c.in-default.ensures
+    read_absent (tree_of self) c.args.number.0 c.args.buffer.now c.in_default.ensures
 
 pub returns : goal.returns
 returns c =
