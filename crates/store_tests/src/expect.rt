@@ -25,7 +25,10 @@ pub fn refuses<S: Store>(
 ) -> Result<(), Fail> {
     let before = fingerprint(s);
     for change in changes {
-        refused(rt, change.make(s), refusal).note(format_args!("{change:?}"))?;
+        match change.make(s) {
+            Ok(()) => return Err(Fail::new(format_args!("{change:?} gave no {refusal:?}"))),
+            Err(given) => assert_eq!(rt; given, refusal, "{change:?}"),
+        }
         assert_eq!(rt; fingerprint(s), before, "{change:?}");
     }
     Ok(())
