@@ -1,6 +1,6 @@
 -- What becomes of bytes that hold a lawful tree as the tree changes. Assumes nothing.
 --     Kept bs n d f u     bs stand for the lawful tree u, and begin with its image if they are enough
-use Rattle.std.proofs.Common.{◌≡◌, ℕ, suc, ◌+◌, ◌-◌, ◌*◌, ◌<◌, ◌≤◌, Bool, true, false, cond, ltb, ◌⊎◌, List, [], ◌∷◌, ◌++◌, length, get_or, take, drop, set, Some, sym, refl, ap, ◌∙◌, subst, ⊎_elim, add-one, arith, lit≤, length-append, length-drop, length-set, length-take-le}
+use Rattle.std.proofs.Common.{◌≡◌, ℕ, ◌+◌, ◌-◌, ◌*◌, ◌<◌, ◌≤◌, ltb, List, ◌∷◌, ◌++◌, length, get_or, take, drop, set, Some, sym, refl, ap, ◌∙◌, subst, ⊎_elim, add-one, arith, lit≤, length-append, length-drop, length-set, length-take-le}
 use Rattle.std.proofs.lemmas.Bool.{cases_lt, cond-true, cond-false, lt-ltb, le-ltb}
 use Rattle.vocab.specs.declared.kind.Kind.{Kind}
 use Rattle.vocab.specs.declared.kind.Kind.TheVariants.{Directory, File}
@@ -15,7 +15,7 @@ use Rattle.format.specs.Fields.{closed, le16, le32, opened, written}
 use Rattle.format.specs.Images.{Begins, Sections, section, fronted, section_at, sections_in, sections_of, size, tree_of, tree_in, with_section}
 use Rattle.format.specs.Layout.{capacity_in, count_at, entry_size, least_size, lowered, raised}
 use Rattle.format.proofs.Cutting.{counts-cleared, entry_inserted, entry-removed, entry-written-twice, next-written, opened-bare}
-use Rattle.format.proofs.Holding.{begins_here, count_directories, count_files, enough, place, room_for}
+use Rattle.format.proofs.Holding.{begins_here, count_directories, count_files, enough, room_for}
 use Rattle.format.proofs.Meaning.{section_ascends, section_at_own, sections_changed, sections_held, sections_inserted, sections_removed, tree_back}
 use Rattle.format.proofs.Placing.{at_place as place_at, change_at, insert_at, without_at}
 

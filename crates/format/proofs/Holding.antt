@@ -1,5 +1,5 @@
 -- Bytes that hold a lawful tree: its counts, its sections, and the room for more. Assumes nothing.
-use Rattle.std.proofs.Common.{◌≡◌, ℕ, zero, suc, ◌+◌, ◌-◌, ◌*◌, ◌/◌, ◌^◌, ◌<◌, ◌≤◌, min, Bool, true, false, cond, not, ltb, ◌⊎◌, List, [], ◌∷◌, ◌++◌, length, get_or, drop, sym, refl, ap, ◌∙◌, subst, ⊎_elim, arith, lit≤, length-append}
+use Rattle.std.proofs.Common.{◌≡◌, ℕ, zero, suc, ◌+◌, ◌-◌, ◌*◌, ◌/◌, ◌<◌, ◌≤◌, min, Bool, true, false, not, ltb, List, [], ◌∷◌, length, get_or, drop, sym, refl, ap, ◌∙◌, subst, ⊎_elim, arith, lit≤, length-append}
 use Rattle.std.specs.List.{AllByRecursion as All}
 use Rattle.std.proofs.lemmas.Nat.{div-add-mod'}
 use Rattle.std.proofs.ByRecursion.{All-get_or, All-weaker}
@@ -8,12 +8,12 @@ use Rattle.vocab.specs.declared.kind.Kind.{Kind}
 use Rattle.vocab.specs.declared.kind.Kind.TheVariants.{Directory, File}
 use Rattle.tree.specs.Law.{Lawful}
 use Rattle.tree.specs.Questions.{contents, directory, kind_of, regular}
-use Rattle.tree.specs.Trees.{Object, Tree, higher, insert, keep, lower}
+use Rattle.tree.specs.Trees.{Object, higher, insert, keep, lower}
 use Rattle.tree.proofs.Changed.{kinds}
 use Rattle.tree.proofs.Inserting.{length_insert}
 use Rattle.tree.proofs.Lists.{keep_append, keep_keep}
-use Rattle.format.specs.Entries.{directory_in, entries, entry_in, file_in}
-use Rattle.format.specs.Images.{Begins, Sections, section, section_at, sections_in, sections_of, size, together, tree_in}
+use Rattle.format.specs.Entries.{directory_in, entries, file_in}
+use Rattle.format.specs.Images.{Begins, section, section_at, sections_in, sections_of, size, together, tree_in}
 use Rattle.format.specs.Layout.{bare_size, capacity_in, directories_at, entry_size, file_size, files_at, head_size, least_size, most_objects}
 use Rattle.format.specs.Reading.{Holds, Shows}
 use Rattle.format.proofs.Codec.{length_entries}

@@ -1,12 +1,12 @@
 -- An object's entry shows it. Assumes nothing.
-use Rattle.std.proofs.Common.{◌≡◌, ℕ, ◌+◌, List, ◌++◌, length, get_or, take, drop, sym, refl, ap, ◌∙◌, arith, length-append}
+use Rattle.std.proofs.Common.{◌≡◌, ℕ, List, ◌++◌, length, get_or, take, drop, sym, refl, ap, ◌∙◌, arith, length-append}
 use Rattle.vocab.specs.declared.kind.Kind.{Kind}
 use Rattle.vocab.specs.declared.kind.Kind.TheVariants.{Directory, File}
 use Rattle.tree.specs.Questions.{contents, kind_of}
 use Rattle.tree.specs.Trees.{Object}
 use Rattle.format.specs.Entries.{directory_in, entry_bytes, entry_in, file_bytes, file_in, head_bytes, name_field, stamp_field}
 use Rattle.format.specs.Fields.{half, le16, le32, word}
-use Rattle.format.specs.Layout.{author_at, contents_at, head_size, name_at, name_length_at, parent_at, serial_at}
+use Rattle.format.specs.Layout.{author_at, contents_at, name_at, name_length_at, parent_at, serial_at}
 use Rattle.format.specs.Reading.{Holds, Shows}
 use Rattle.format.proofs.Codec.{Fit, contents_back, entry_back, length_back}
 use Rattle.format.proofs.Lengths.{length_entry}

@@ -1,5 +1,5 @@
 -- What searches through the sections tell of the tree. Assumes nothing.
-use Rattle.std.proofs.Common.{◌≡◌, ℕ, ◌<◌, ◌≤◌, Bool, true, false, cond, not, ◌||◌, eqb, List, length, get_or, Some, None, Ok, Err, Option, sym, refl, ap, ◌∙◌, subst, arith}
+use Rattle.std.proofs.Common.{◌≡◌, ℕ, Bool, true, false, ◌||◌, List, get_or, Some, None, Ok, Err, Option, sym, refl, ap, ◌∙◌, arith}
 use Rattle.std.proofs.lemmas.Bool.{cases_Bool, cond_both}
 use Rattle.vocab.specs.Meaning.{numbered, values}
 use Rattle.vocab.specs.declared.kind.Kind.{Kind}
@@ -7,7 +7,7 @@ use Rattle.vocab.specs.declared.kind.Kind.TheVariants.{Directory, File}
 use Rattle.vocab.specs.declared.number.Number.{Number}
 use Rattle.vocab.proofs.Numbering.{values_numbered}
 use Rattle.tree.specs.Law.{Lawful}
-use Rattle.tree.specs.Questions.{child, dir_at, is_dir, is_file, is_some, kind_of, regular}
+use Rattle.tree.specs.Questions.{child, is_file, regular}
 use Rattle.tree.specs.Trees.{Object, Tree, at, some_of}
 use Rattle.tree.proofs.Ascending.{at_keep, only, or_else}
 use Rattle.format.specs.Images.{section, sections_of}

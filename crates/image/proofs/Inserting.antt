@@ -1,5 +1,5 @@
 -- An entry more in an image store. Assumes nothing.
-use Rattle.std.proofs.Common.{◌≡◌, ℕ, ◌+◌, ◌-◌, ◌*◌, ◌<◌, ◌≤◌, true, false, List, length, get_or, Some, None, Ok, Err, Option, sym, refl, ap, ◌∙◌, arith}
+use Rattle.std.proofs.Common.{◌≡◌, ℕ, ◌+◌, ◌-◌, ◌*◌, ◌<◌, ◌≤◌, false, List, length, Ok, Err, refl, ap, ◌∙◌, arith}
 use Rattle.std.proofs.lemmas.Bool.{both_ways}
 use Rattle.vocab.specs.declared.kind.Kind.{Kind}
 use Rattle.vocab.specs.declared.kind.Kind.TheVariants.{Directory, File}
@@ -7,7 +7,7 @@ use Rattle.vocab.specs.declared.stamp.Stamp.{Stamp}
 use Rattle.tree.specs.Changes.{fresh}
 use Rattle.tree.specs.Law.{Lawful}
 use Rattle.tree.specs.Questions.{is_some, kind_of}
-use Rattle.tree.specs.Trees.{Object, at, insert, with_objects}
+use Rattle.tree.specs.Trees.{at, insert, with_objects}
 use Rattle.format.specs.Entries.{entry_bytes}
 use Rattle.format.specs.Fields.{le16, opened, written}
 use Rattle.format.specs.Images.{section, section_at, size}
@@ -18,7 +18,7 @@ use Rattle.image.specs.Searches.{Located, nothing}
 use Rattle.image.specs.Stores.{bytes_of, store_sections, tree_of}
 use Rattle.image.specs.declared.Image.{Image}
 use Rattle.image.proofs.Finding.{stands}
-use Rattle.image.proofs.Standing.{law, place_low}
+use Rattle.image.proofs.Standing.{law}
 
 -- where there is room for an object, there is an image
 pub large : (s : Image) → length (tree_of s).objects < (tree_of s).capacity → least_size ≤ length (bytes_of s)

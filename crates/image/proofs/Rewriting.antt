@@ -1,11 +1,10 @@
 -- An entry changed or removed in an image store. Assumes nothing.
-use Rattle.std.proofs.Common.{◌≡◌, ℕ, ◌+◌, ◌-◌, ◌*◌, ◌<◌, ◌≤◌, List, length, Some, sym, refl, ap, ◌∙◌, subst, mul-add, arith, lit≤}
+use Rattle.std.proofs.Common.{◌≡◌, ℕ, ◌+◌, ◌-◌, ◌*◌, ◌<◌, ◌≤◌, List, length, sym, refl, ap, ◌∙◌, mul-add, arith, lit≤}
 use Rattle.vocab.specs.declared.kind.Kind.{Kind}
 use Rattle.vocab.specs.declared.kind.Kind.TheVariants.{Directory, File}
 use Rattle.vocab.specs.declared.stamp.Stamp.{Stamp}
 use Rattle.tree.specs.Changes.{with_contents, with_place}
 use Rattle.tree.specs.Law.{Lawful}
-use Rattle.tree.specs.Questions.{kind_of}
 use Rattle.tree.specs.Trees.{Object, change, with_objects, without}
 use Rattle.format.specs.Entries.{contents_field, entry_bytes, name_field, stamp_field}
 use Rattle.format.specs.Fields.{closed, le16, le32, written}
@@ -13,15 +12,15 @@ use Rattle.format.specs.Images.{section, section_at, size}
 use Rattle.format.specs.Layout.{author_at, entry_size, head_size, least_size, lowered, name_length_at, parent_at}
 use Rattle.format.proofs.Changing.{Kept, removed, rewritten}
 use Rattle.format.proofs.Cutting.{contents-written, name-written, parent-written, stamp-written}
-use Rattle.format.proofs.Holding.{begins_here, enough, few, some}
-use Rattle.format.proofs.Lengths.{entry_within, length_contents, length_le32, length_name, length_stamp}
+use Rattle.format.proofs.Holding.{enough, few, some}
+use Rattle.format.proofs.Lengths.{length_contents, length_le32, length_name, length_stamp}
 use Rattle.image.specs.Places.{Stands, found}
 use Rattle.image.specs.Searches.{nothing}
 use Rattle.image.specs.Stores.{bytes_of, store_sections, tree_of}
 use Rattle.image.specs.declared.Image.{Image}
 use Rattle.image.specs.declared.place.Place.{Place}
 use Rattle.image.proofs.Finding.{stands}
-use Rattle.image.proofs.Standing.{law, place_held, place_low}
+use Rattle.image.proofs.Standing.{law, place_low}
 
 pub head_low : (k : Kind) → head_size ≤ entry_size k
 head_low Directory = lit≤ tt

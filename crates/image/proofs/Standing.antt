@@ -1,14 +1,13 @@
 -- What is known of an image store. Assumes nothing.
-use Rattle.std.proofs.Common.{◌≡◌, ℕ, ◌+◌, ◌*◌, ◌<◌, ◌≤◌, length, get_or, drop, arith}
+use Rattle.std.proofs.Common.{◌≡◌, ℕ, ◌+◌, ◌*◌, ◌<◌, ◌≤◌, length, arith}
 use Rattle.vocab.specs.declared.kind.Kind.{Kind}
 use Rattle.vocab.specs.declared.kind.Kind.TheVariants.{Directory, File}
 use Rattle.tree.specs.Law.{Lawful}
 use Rattle.tree.proofs.Props.{untold}
 use Rattle.format.specs.Images.{section, section_at, size}
-use Rattle.format.specs.Layout.{capacity_in, entry_size, most_objects}
+use Rattle.format.specs.Layout.{entry_size, most_objects}
 use Rattle.format.proofs.Cutting.{begins_long}
 use Rattle.format.proofs.Holding.{begins_here, capacity_most, count_directories, count_files, few}
-use Rattle.format.proofs.Lengths.{entry_within}
 use Rattle.image.specs.Stores.{bytes_of, store_sections, tree_of}
 use Rattle.image.specs.declared.Image.{Image}
 

@@ -6,7 +6,7 @@ use Rattle.model.specs.Cancelling.{erase_object}
 use Rattle.model.specs.Records.{Edit, Record, create, mkdir, object, remove, rename, rmdir, stamp_of, store}
 use Rattle.tree.specs.Changes.{fresh, with_contents, with_place}
 use Rattle.tree.specs.Questions.{child_of, has_child, placed}
-use Rattle.tree.specs.Trees.{Object, at, change_one, higher, insert, is, keep, lower, some_of, without}
+use Rattle.tree.specs.Trees.{Object, change_one, higher, insert, is, keep, lower, some_of, without}
 use Rattle.tree.proofs.Lists.{keep_keep, length_keep, some_append, some_keep, some_map_false}
 use Rattle.tree.proofs.Objects.{Split, at_without, change_number, climbs_without, split_insert, split_keep, split_map, without_change, without_insert, without_own, without_own_change, without_own_insert}
 use Rattle.vocab.specs.declared.kind.Kind.TheVariants.{Directory, File}

@@ -15,7 +15,7 @@ use Rattle.model.specs.Records.{Edit, Record, create, mkdir, object, remove, ren
 use Rattle.model.specs.Replaying.{Clash, Outcome, replay}
 use Rattle.model.specs.Worlds.{Turn, World, accepted, done_answer, edit, edit_answer, join, leave, loader_of, made_by, office, office_read, own_stamp, put_loader, put_server, quit, rank, read, read_done, reads_away, reads_home, run, step, walk, with_hoard, with_loader}
 use Rattle.model.proofs.Serving.{first_keeps}
-use Rattle.tree.specs.Changes.{fresh, with_place}
+use Rattle.tree.specs.Changes.{with_place}
 use Rattle.tree.specs.Questions.{held, is_file}
 use Rattle.tree.specs.Trees.{Tree, at, is, with_objects}
 use Rattle.vocab.specs.declared.layer.Layer.TheVariants.{Copy, Loader as LoaderLayer, Server}

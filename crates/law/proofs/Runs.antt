@@ -15,7 +15,6 @@ use Rattle.vocab.specs.declared.refusal.Refusal.{Refusal}
 use Rattle.vocab.specs.declared.stamp.Stamp.{Stamp}
 use Rattle.vocab.specs.Checks.{Check, Holds, judge}
 use Rattle.vocab.proofs.Judging.{judge_accepts, judge_passes}
-use Rattle.law.specs.Spells.{logged}
 
 abbrev pub rec : Stamp → Edit → Record
 rec s e = record { author = s.author; serial = s.serial; edit = e }

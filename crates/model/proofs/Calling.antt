@@ -10,7 +10,6 @@ use Rattle.tree.proofs.Means.{look_given}
 use Rattle.vocab.specs.declared.stamp.Stamp.{Stamp}
 use Rattle.vocab.specs.Checks.{judge}
 use Rattle.model.specs.Applying.{same_stamp, stamped, stands}
-use Rattle.model.specs.Cases.{b}
 use Rattle.model.specs.Office.{Call, bound, called, called_checks, called_tree, make_directory, make_file, remove_directory, remove_file, rename_object, stamp_at, store_into}
 
 -- ---- what holds of a bound name, and of a file

@@ -17,9 +17,9 @@ use Rattle.vocab.specs.Checks.{Check, Holds, judge}
 use Rattle.vocab.specs.Limits.{temporary}
 use Rattle.vocab.proofs.Judging.{judge_keeps}
 use Rattle.model.specs.Applying.{all_checks, applied, asked, effect, first_check, own_checks}
-use Rattle.model.specs.Cases.{a, b}
+use Rattle.model.specs.Cases.{b}
 use Rattle.model.specs.Office.{Call, call_checks, called, edit_of, make_directory, make_file, office_record, raised, remove_directory, remove_file, rename_object, spends, store_into}
-use Rattle.model.specs.Records.{Edit, Record, create, makes, mkdir, names, object, remove, rename, rmdir, stamp_of, store}
+use Rattle.model.specs.Records.{Edit, Record, create, makes, mkdir, object, remove, rename, rmdir, stamp_of, store}
 use Rattle.model.specs.Theorems.{NumbersBelowNext}
 use Rattle.model.proofs.Ordering.{applied_in_order}
 

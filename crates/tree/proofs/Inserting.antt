@@ -3,7 +3,7 @@ use Rattle.std.proofs.Common.{◌≡◌, ℕ, suc, ◌+◌, ◌<◌, ◌≤◌, 
 use Rattle.std.proofs.lemmas.Bool.{cases_lt, ltb-true, ltb-false, lt-ltb, le-ltb, cases_Bool, not-true}
 use Rattle.std.proofs.lemmas.Bool.Decides.{nat_tests}
 use Rattle.tree.specs.Questions.{child, child_of, smaller}
-use Rattle.tree.specs.Trees.{Object, at, change, change_one, higher, insert, keep, lower, some_of}
+use Rattle.tree.specs.Trees.{Object, change, change_one, higher, insert, keep, lower, some_of}
 use Rattle.tree.proofs.Lists.{keep_append, keep_keep, keep_map, map_append}
 use Rattle.tree.proofs.Objects.{Split, change_number, keep_all, keep_none}
 

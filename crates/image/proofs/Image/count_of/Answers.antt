@@ -1,4 +1,4 @@
-use Rattle.std.proofs.Common.{◌≡◌, length, sym, ap, ◌∙◌}
+use Rattle.std.proofs.Common.{length, sym, ap, ◌∙◌}
 use Rattle.format.specs.Images.{section}
 use Rattle.image.specs.Stores.{store_sections}
 use Rattle.image.proofs.Standing.{directories_are, files_are}

@@ -1,12 +1,10 @@
-use Rattle.std.proofs.Common.{◌≡◌, ◌+◌, ◌-◌, ◌≤◌, length, sym, ap, ◌∙◌, subst, arith}
+use Rattle.std.proofs.Common.{◌≡◌, length, sym, ap, ◌∙◌, subst, arith}
 use Rattle.vocab.specs.Meaning.{name_of}
 use Rattle.tree.specs.Changes.{fresh}
 use Rattle.tree.specs.Trees.{insert, with_objects}
-use Rattle.format.specs.Entries.{entry_bytes}
-use Rattle.format.specs.Fields.{le16, opened, written}
-use Rattle.format.specs.Layout.{entry_size}
+use Rattle.format.specs.Fields.{le16}
 use Rattle.format.proofs.Changing.{Kept}
-use Rattle.image.specs.Stores.{bytes_of, spare_of, tree_of}
+use Rattle.image.specs.Stores.{spare_of, tree_of}
 use Rattle.image.proofs.Inserting.{entered_by, large, room_behind, taken_number}
 use Rattle.image.proofs.Standing.{count_low, place_low}
 use Rattle.image.proofs.Storing.{held_after, lawful_after, spare_after, tree_after}

@@ -1,4 +1,4 @@
-use Rattle.std.proofs.Common.{◌≡◌, ◌+◌, ◌-◌, ◌≤◌, length, sym, ap, ◌∙◌, subst, arith}
+use Rattle.std.proofs.Common.{◌≡◌, length, ap, ◌∙◌, arith}
 use Rattle.vocab.specs.Meaning.{contents_of}
 use Rattle.tree.specs.Changes.{with_contents}
 use Rattle.tree.specs.Trees.{change, with_objects}

@@ -1,4 +1,4 @@
-use Rattle.std.proofs.Common.{◌≡◌, ◌*◌, ap, arith}
+use Rattle.std.proofs.Common.{◌*◌, ap, arith}
 use Rattle.image.proofs.Standing.{place_low, size_low}
 use Rattle.image.proofs.Image.place_of.Goals as goal
 

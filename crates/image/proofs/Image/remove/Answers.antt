@@ -1,11 +1,11 @@
-use Rattle.std.proofs.Common.{◌≡◌, ◌+◌, ◌-◌, ◌≤◌, length, sym, ap, ◌∙◌, subst, arith}
+use Rattle.std.proofs.Common.{◌≡◌, length, sym, ap, ◌∙◌, subst, arith}
 use Rattle.tree.specs.Trees.{with_objects, without}
 use Rattle.format.specs.Fields.{le16}
 use Rattle.format.proofs.Changing.{Kept}
 use Rattle.image.specs.Places.{found}
 use Rattle.image.specs.Stores.{spare_of, tree_of}
 use Rattle.image.proofs.Rewriting.{entry_held, gone, held_large}
-use Rattle.image.proofs.Standing.{count_low, place_held, place_low, size_low}
+use Rattle.image.proofs.Standing.{count_low, place_held, place_low}
 use Rattle.image.proofs.Storing.{held_after, lawful_after, spare_after, tree_after}
 use Rattle.image.proofs.Image.remove.Goals as goal
 

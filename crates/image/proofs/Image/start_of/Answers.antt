@@ -1,4 +1,4 @@
-use Rattle.std.proofs.Common.{◌≡◌, ◌+◌, ◌*◌, sym, ap, ◌∙◌, arith}
+use Rattle.std.proofs.Common.{◌+◌, ◌*◌, sym, ap, ◌∙◌, arith}
 use Rattle.format.specs.Images.{section_at}
 use Rattle.image.specs.Stores.{store_sections}
 use Rattle.image.proofs.Standing.{at_most, directories_are}

@@ -1,4 +1,4 @@
-use Rattle.std.proofs.Common.{◌≡◌, ◌+◌, ◌≤◌, length, refl, ap, ◌∙◌, arith, length-take}
+use Rattle.std.proofs.Common.{◌+◌, length, refl, ap, ◌∙◌, arith, length-take}
 use Rattle.vocab.specs.Buffers.{padded}
 use Rattle.vocab.specs.Limits.{longest_contents}
 use Rattle.vocab.specs.Meaning.{contents_of}

@@ -1,4 +1,4 @@
-use Rattle.std.proofs.Common.{◌≡◌, ◌+◌, [], sym, ap, ◌∙◌, arith}
+use Rattle.std.proofs.Common.{◌+◌, [], sym, ap, ◌∙◌, arith}
 use Rattle.vocab.specs.Meaning.{name_of}
 use Rattle.vocab.specs.declared.kind.Kind.TheVariants.{Directory}
 use Rattle.tree.specs.Changes.{fresh}

@@ -2,7 +2,7 @@ use Rattle.std.proofs.Common.{◌≡◌, ◌+◌, ◌++◌, refl, ap, ◌∙◌,
 use Rattle.vocab.specs.Meaning.{name_of}
 use Rattle.format.specs.Entries.{head_bytes, name_field, stamp_field}
 use Rattle.format.specs.Fields.{le32, written}
-use Rattle.format.proofs.Lengths.{length_le32, length_name, length_stamp}
+use Rattle.format.proofs.Lengths.{length_name, length_stamp}
 use Rattle.format.proofs.Writing.{then}
 use Rattle.image.proofs.entry.write_head.Goals as goal
 

@@ -1,5 +1,5 @@
 use Rattle.std.proofs.Common.{sym, refl, ap, arith}
-use Rattle.stack.specs.Stacks.{places, popped}
+use Rattle.stack.specs.Stacks.{popped}
 use Rattle.stack.proofs.Ends.{reverse_less}
 use Rattle.stack.proofs.Stack.pop.Goals as goal
 

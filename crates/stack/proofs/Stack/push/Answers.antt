@@ -1,5 +1,4 @@
 use Rattle.std.proofs.Common.{reverse, length, take, Ok, sym, refl, ap, ◌∙◌, arith, length-set}
-use Rattle.stack.specs.Stacks.{places}
 use Rattle.stack.proofs.Ends.{reverse_more, reverse_take}
 use Rattle.stack.proofs.Pushing.{pushed_fits, pushed_full}
 use Rattle.stack.proofs.Stack.push.Goals as goal

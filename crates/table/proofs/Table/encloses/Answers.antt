@@ -1,4 +1,4 @@
-use Rattle.std.proofs.Common.{◌-◌, sym, ap, ◌∙◌}
+use Rattle.std.proofs.Common.{sym, ap, ◌∙◌}
 use native.Mathlib.Nat.{sub-zero}
 use Rattle.table.specs.Tables.{rows_of}
 use Rattle.tree.specs.Questions.{climbs}
