@@ -3,7 +3,7 @@ use Rattle.std.proofs.Common.{◌≡◌, ℕ, zero, suc, ◌+◌, ◌*◌, ◌/�
 use lib.ListN.{length-replicate}
 use Rattle.std.proofs.lemmas.Nat.{div-add-mod', div_below, shr-shr}
 use Rattle.std.proofs.lemmas.List.{drop_at, drop-drop, get_or-drop, take-append-le, take_at, take-take}
-use Rattle.std.specs.List.{flat_map, AllByRecursion as All}
+use Rattle.std.specs.List.{flat_map, AllByRecursion}
 use Rattle.vocab.specs.Buffers.{padded}
 use Rattle.vocab.specs.Limits.{longest_contents, longest_name}
 use Rattle.vocab.specs.declared.kind.Kind.{Kind}
@@ -132,7 +132,7 @@ pub entry_back : (k : Kind) (o : Object) (rest : List ℕ) → Fit o → kind_of
 entry_back Directory o rest fit e = directory_back o rest fit e
 entry_back File o rest fit e = file_back o rest fit e
 
-pub entries_back : (k : Kind) (l : List Object) (rest : List ℕ) → All (λ o. Fit o × (kind_of o ≡ k)) l → entries k (length l) (flat_map (entry_bytes k) l ++ rest) ≡ l
+pub entries_back : (k : Kind) (l : List Object) (rest : List ℕ) → AllByRecursion (λ o. Fit o × (kind_of o ≡ k)) l → entries k (length l) (flat_map (entry_bytes k) l ++ rest) ≡ l
 entries_back k [] rest h = refl
 entries_back k (o ∷ l) rest h =
     let bs = flat_map (entry_bytes k) l ++ rest in
@@ -156,7 +156,7 @@ get_or_entries k none (suc n) bs (suc i) h =
     ∙ ap (entry_in k) (drop-drop (entry_size k * i) (entry_size k) bs ∙ ap (λ j. drop j bs) (omega (arith, mul-suc (entry_size k) i)))
 
 -- the entry at each place of a section is its object's
-pub entry_at : (k : Kind) (none : Object) (l : List Object) (rest : List ℕ) → All (λ o. Fit o × (kind_of o ≡ k)) l → (i : ℕ) → i < length l → entry_in k (drop (entry_size k * i) (flat_map (entry_bytes k) l ++ rest)) ≡ get_or l i none
+pub entry_at : (k : Kind) (none : Object) (l : List Object) (rest : List ℕ) → AllByRecursion (λ o. Fit o × (kind_of o ≡ k)) l → (i : ℕ) → i < length l → entry_in k (drop (entry_size k * i) (flat_map (entry_bytes k) l ++ rest)) ≡ get_or l i none
 entry_at k none l rest h i below =
     sym (get_or_entries k none (length l) (flat_map (entry_bytes k) l ++ rest) i below)
     ∙ ap (λ m. get_or m i none) (entries_back k l rest h)

@@ -1,6 +1,6 @@
 -- Bytes that hold a lawful tree: its counts, its sections, and the room for more. Assumes nothing.
 use Rattle.std.proofs.Common.{◌≡◌, ℕ, zero, suc, ◌+◌, ◌-◌, ◌*◌, ◌/◌, ◌<◌, ◌≤◌, min, Bool, true, false, not, ltb, List, [], ◌∷◌, length, get_or, drop, sym, refl, ap, ◌∙◌, subst, ⊎_elim, arith, lit≤, length-append}
-use Rattle.std.specs.List.{AllByRecursion as All}
+use Rattle.std.specs.List.{AllByRecursion}
 use Rattle.std.proofs.lemmas.Nat.{div-add-mod'}
 use Rattle.std.proofs.ByRecursion.{All-get_or, All-weaker}
 use Rattle.std.proofs.lemmas.Bool.{cases_Bool, cases_lt, cond-true, cond-false, lt-ltb, le-ltb}
@@ -34,7 +34,7 @@ insert_others q o l h =
 insert_one : (q : Object → Bool) (o : Object) (l : List Object) → q o ≡ true → length (keep q (insert o l)) ≡ suc (length (keep q l))
 insert_one q o l h = ap length (section_insert q o l h) ∙ length_insert o (keep q l)
 
-entries_kind : (k : Kind) (n : ℕ) (bs : List ℕ) → All (λ o. kind_of o ≡ k) (entries k n bs)
+entries_kind : (k : Kind) (n : ℕ) (bs : List ℕ) → AllByRecursion (λ o. kind_of o ≡ k) (entries k n bs)
 unfolding directory_in file_in
 entries_kind k zero bs = tt
 entries_kind Directory (suc n) bs = (refl, entries_kind Directory n (drop head_size bs))
@@ -48,12 +48,12 @@ module _ (o : Object) where
   not_regular h = kinds o ∙ ap not (kind_true Directory o h)
 
 -- two lists, of directories and of files, in one
-module _ (fs : List Object) (files : All (λ o. kind_of o ≡ File) fs) where
-  directories_counted : (ds : List Object) → All (λ o. kind_of o ≡ Directory) ds → length (keep directory (together ds fs)) ≡ length ds
+module _ (fs : List Object) (files : AllByRecursion (λ o. kind_of o ≡ File) fs) where
+  directories_counted : (ds : List Object) → AllByRecursion (λ o. kind_of o ≡ Directory) ds → length (keep directory (together ds fs)) ≡ length ds
   directories_counted [] h = ap length (keep_no directory fs (All-weaker _ _ not_directory fs files))
   directories_counted (o ∷ ds) h = insert_one directory o (together ds fs) (kind_true Directory o h.0) ∙ ap suc (directories_counted ds h.1)
 
-  files_counted : (ds : List Object) → All (λ o. kind_of o ≡ Directory) ds → length (keep regular (together ds fs)) ≡ length fs
+  files_counted : (ds : List Object) → AllByRecursion (λ o. kind_of o ≡ Directory) ds → length (keep regular (together ds fs)) ≡ length fs
   files_counted [] h = ap length (keep_every regular fs (All-weaker _ _ (kind_true File) fs files))
   files_counted (o ∷ ds) h = insert_others regular o (together ds fs) (not_regular o h.0) ∙ files_counted ds h.1
 

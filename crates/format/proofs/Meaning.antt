@@ -1,6 +1,6 @@
 -- Lawful trees and their sections. Assumes nothing.
 use Rattle.std.proofs.Common.{◌≡◌, ℕ, suc, ◌+◌, ◌*◌, ◌^◌, ◌<◌, Bool, true, false, cond, not, eqb, List, [], ◌∷◌, ◌++◌, length, drop, Some, None, Option, sym, refl, ap, ◌∙◌, subst, ⊎_elim, append_assoc, arith}
-use Rattle.std.specs.List.{flat_map, AllByRecursion as All}
+use Rattle.std.specs.List.{flat_map, AllByRecursion}
 use Rattle.std.proofs.lemmas.List.{drop_at, drop-drop}
 use Rattle.std.proofs.lemmas.Bool.{cases_Bool, cond-false, cond-true, eq-eqb, eqb-true, or_cases}
 use Rattle.vocab.specs.declared.kind.Kind.{Kind}
@@ -94,7 +94,7 @@ module _ (s : Sections) (rest : List ℕ) where
       ∙ ap (λ l. half l 0) drop_to_count
       ∙ half_le16 (length s.files) behind_files h
 
-  pub sections_in_back : ((k : Kind) → All (λ o. Fit o × (kind_of o ≡ k)) (section k s)) → sections_in s.next (length s.directories) (length s.files) (encoded s ++ rest) ≡ s
+  pub sections_in_back : ((k : Kind) → AllByRecursion (λ o. Fit o × (kind_of o ≡ k)) (section k s)) → sections_in s.next (length s.directories) (length s.files) (encoded s ++ rest) ≡ s
   sections_in_back fits =
       let ds = ap (λ l. entries Directory (length s.directories) l) drop_to_directories ∙ entries_back Directory s.directories behind_directories (fits Directory) in
       let fs = ap (λ l. entries File (length s.files) l) drop_to_files ∙ entries_back File s.files rest (fits File) in
@@ -102,7 +102,7 @@ module _ (s : Sections) (rest : List ℕ) where
 
 -- ---- a lawful tree
 
-all_from_at : (P : Object → Type 0) (n : ℕ) (l : List Object) → Ascends n l → ((x : ℕ) (o : Object) → at x l ≡ Some o → P o) → All P l
+all_from_at : (P : Object → Type 0) (n : ℕ) (l : List Object) → Ascends n l → ((x : ℕ) (o : Object) → at x l ≡ Some o → P o) → AllByRecursion P l
 all_from_at P n [] r h = tt
 all_from_at P n (o ∷ l) r h = (
   h o.number o (cond-true (is o.number o) (Some o) (at o.number l) (eq-eqb o.number o.number refl)),
@@ -152,7 +152,7 @@ module _ (t : Tree) (lawful : Lawful t) where
   pub section_at_own : (k : Kind) (x : ℕ) (o : Object) → at x t.objects ≡ Some o → kind_of o ≡ k → at x (section k (sections_of t)) ≡ Some o
   section_at_own k x o e h = at_section k x ∙ ap (only (of_kind k)) e ∙ cond-true (of_kind k o) (Some o) None (kind_true k o h)
 
-  pub section_fits : (k : Kind) → All (λ o. Fit o × (kind_of o ≡ k)) (section k (sections_of t))
+  pub section_fits : (k : Kind) → AllByRecursion (λ o. Fit o × (kind_of o ≡ k)) (section k (sections_of t))
   section_fits k =
       all_from_at (λ o. Fit o × (kind_of o ≡ k)) 2 (section k (sections_of t)) (section_ascends k)
       (λ x o e. let w = at_in_section k x o e in (lawful_fits x o w.0, w.1))

@@ -1,6 +1,6 @@
 -- A list of objects and its two sections. Assumes nothing.
 use Rattle.std.proofs.Common.{◌≡◌, ℕ, zero, suc, ◌+◌, ◌<◌, ◌≤◌, min, Bool, true, false, cond, not, ◌&&◌, ◌||◌, ltb, List, [], ◌∷◌, length, get_or, Some, None, Option, sym, refl, ap, ◌∙◌, arith}
-use Rattle.std.specs.List.{AllByRecursion as All}
+use Rattle.std.specs.List.{AllByRecursion}
 use Rattle.std.proofs.lemmas.Bool.{cases_Bool, cond-false, cond-true, eqb-false, eqb-true}
 use Rattle.tree.specs.Questions.{child, child_of, directory, regular, smaller}
 use Rattle.tree.specs.Trees.{Ascends, Object, at, change, change_one, higher, insert, is, keep, lower, some_of, without}
@@ -71,11 +71,11 @@ together_back n (o ∷ l) r = go (together_back (suc o.number) l r.1) (directory
 
 -- ---- and are those of the two together
 
-pub keep_every : (q : Object → Bool) (l : List Object) → All (λ o. q o ≡ true) l → keep q l ≡ l
+pub keep_every : (q : Object → Bool) (l : List Object) → AllByRecursion (λ o. q o ≡ true) l → keep q l ≡ l
 keep_every q [] h = refl
 keep_every q (o ∷ l) h = rw h.0 (ap (λ z. o ∷ z) (keep_every q l h.1))
 
-pub keep_no : (q : Object → Bool) (l : List Object) → All (λ o. q o ≡ false) l → keep q l ≡ []
+pub keep_no : (q : Object → Bool) (l : List Object) → AllByRecursion (λ o. q o ≡ false) l → keep q l ≡ []
 keep_no q [] h = refl
 keep_no q (o ∷ l) h = rw h.0 (keep_no q l h.1)
 
@@ -83,14 +83,14 @@ split_together : (ds fs : List Object) → Split fs → Split (together ds fs)
 split_together [] fs s = s
 split_together (o ∷ ds) fs s = split_insert o (together ds fs) (split_together ds fs s)
 
-pub together_directories : (m : ℕ) (ds fs : List Object) → Ascends m ds → All (λ o. directory o ≡ true) ds → All (λ o. directory o ≡ false) fs → keep directory (together ds fs) ≡ ds
+pub together_directories : (m : ℕ) (ds fs : List Object) → Ascends m ds → AllByRecursion (λ o. directory o ≡ true) ds → AllByRecursion (λ o. directory o ≡ false) fs → keep directory (together ds fs) ≡ ds
 together_directories m [] fs r h k = keep_no directory fs k
 together_directories m (o ∷ ds) fs r h k =
     section_insert directory o (together ds fs) h.0
     ∙ ap (insert o) (together_directories (suc o.number) ds fs r.1 h.1 k)
     ∙ insert_low (suc o.number) o ds (omega arith) r.1
 
-pub together_files : (n : ℕ) (ds fs : List Object) → Ascends n fs → All (λ o. regular o ≡ false) ds → All (λ o. regular o ≡ true) fs → keep regular (together ds fs) ≡ fs
+pub together_files : (n : ℕ) (ds fs : List Object) → Ascends n fs → AllByRecursion (λ o. regular o ≡ false) ds → AllByRecursion (λ o. regular o ≡ true) fs → keep regular (together ds fs) ≡ fs
 together_files n [] fs r h k = keep_every regular fs k
 together_files n (o ∷ ds) fs r h k =
     section_insert_other regular o (together ds fs) (split_together ds fs (split_ascends n fs r)) h.0 ∙ together_files n ds fs r h.1 k
@@ -103,7 +103,7 @@ together_at x (o ∷ ds) fs h k = go (λ e. together_at x ds fs e k) (is x o) re
     go ih true e = let z : Some o ≡ None = sym (cond-true (is x o) (Some o) (at x ds) e) ∙ h in let y : ◌≡◌ {A = ℕ} 0 1 = cc in absurd (omega arith)
     go ih false e = at_insert_other o (together ds fs) x (eqb-false o.number x e) ∙ ih (sym (cond-false (is x o) (Some o) (at x ds) e) ∙ h)
 
-pub together_ascends : (n : ℕ) (ds fs : List Object) → Ascends n ds → Ascends n fs → All (λ o. at o.number fs ≡ None) ds → Ascends n (together ds fs)
+pub together_ascends : (n : ℕ) (ds fs : List Object) → Ascends n ds → Ascends n fs → AllByRecursion (λ o. at o.number fs ≡ None) ds → Ascends n (together ds fs)
 together_ascends n [] fs r s h = s
 together_ascends n (o ∷ ds) fs r s h =
     ascends_insert n o (together ds fs) r.0

@@ -1,6 +1,6 @@
 -- The loaders of a world: one is found by its number, and another put into its place. Assumes nothing.
 use Rattle.std.proofs.Common.{◌≡◌, ℕ, Bool, true, false, cond, eqb, List, [], ◌∷◌, Some, None, Option, sym, refl, ap, ◌∙◌, subst, ap₂, arith}
-use Rattle.std.specs.List.{AllByRecursion as All}
+use Rattle.std.specs.List.{AllByRecursion}
 use Rattle.std.proofs.lemmas.Bool.{eqb-true, eqb-false, cond-true, cond-false, cond_both}
 use Rattle.model.specs.declared.answer.Answer.{Answer}
 use Rattle.model.specs.declared.answer.Answer.TheVariants.{NotAllowed}
@@ -8,7 +8,7 @@ use Rattle.model.specs.Loaders.{Loader, Spell, State, away, home}
 use Rattle.model.specs.Worlds.{World, by_loader, loader_of, with_loader}
 use Rattle.law.specs.Guarantees.{NumbersDiffer}
 
-pub found : (P : Loader → Type 0) (a : ℕ) (ds : List Loader) (d : Loader) → All P ds → loader_of a ds ≡ Some d → P d × (d.number ≡ a)
+pub found : (P : Loader → Type 0) (a : ℕ) (ds : List Loader) (d : Loader) → AllByRecursion P ds → loader_of a ds ≡ Some d → P d × (d.number ≡ a)
 found P a [] d h e = let z : ◌≡◌ {A = ℕ} 0 1 = cc in absurd (omega arith)
 found P a (x ∷ ds) d h e = go (found P a ds d h.1) (eqb x.number a) refl
   where
@@ -19,7 +19,7 @@ found P a (x ∷ ds) d h e = go (found P a ds d h.1) (eqb x.number a) refl
         (subst P k h.0, ap (λ z. z.number) (sym k) ∙ eqb-true x.number a f)
     go ih false f = ih (sym (cond-false (eqb x.number a) (Some x) (loader_of a ds) f) ∙ e)
 
-pub put_all : (P Q : Loader → Type 0) (e : Loader) → Q e → ((d : Loader) → (d.number ≡ e.number → ⊥) → P d → Q d) → (ds : List Loader) → All P ds → All Q (with_loader e ds)
+pub put_all : (P Q : Loader → Type 0) (e : Loader) → Q e → ((d : Loader) → (d.number ≡ e.number → ⊥) → P d → Q d) → (ds : List Loader) → AllByRecursion P ds → AllByRecursion Q (with_loader e ds)
 put_all P Q e q k [] h = tt
 put_all P Q e q k (d ∷ ds) h = (cond_both (eqb d.number e.number) e d Q (λ f. q) (λ f. k d (eqb-false d.number e.number f) h.0), put_all P Q e q k ds h.1)
 
@@ -66,7 +66,7 @@ put_same a (x ∷ ds) d h e = go (put_same a ds d h.1) (eqb x.number a) refl
         let n = (found (λ _. Unit {0}) a (x ∷ ds) d (units (x ∷ ds)) e).1 in
         ap₂ (λ u v. u ∷ v) (cond-false (eqb x.number d.number) d x (ap (eqb x.number) n ∙ f)) (ih g)
       where
-        units : (l : List Loader) → All (λ _. Unit {0}) l
+        units : (l : List Loader) → AllByRecursion (λ _. Unit {0}) l
         units [] = tt
         units (y ∷ l) = (tt, units l)
 

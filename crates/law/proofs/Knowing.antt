@@ -1,6 +1,6 @@
 -- The numbers that a spell knows. Assumes nothing.
 use Rattle.std.proofs.Common.{◌≡◌, ℕ, ◌+◌, ◌<◌, ◌≤◌, Bool, true, false, cond, not, eqb, List, [], ◌∷◌, ◌++◌, Some, None, Option, sym, refl, subst, inl, inr, arith}
-use Rattle.std.specs.List.{AllByRecursion as All}
+use Rattle.std.specs.List.{AllByRecursion}
 use Rattle.std.proofs.lemmas.Bool.{both_ways, or_cases, and_parts, eqb-true, eq-eqb}
 use Rattle.vocab.specs.Limits.{temporary}
 use Rattle.model.specs.Applying.{effect, stands}
@@ -34,7 +34,7 @@ knows_more m n k (remove x p o e) h = (known_more m n k x h.0, known_more m n k 
 knows_more m n k (rmdir x p o) h = (known_more m n k x h.0, known_more m n k p h.1)
 knows_more m n k (rename x p o q r) h = (known_more m n k x h.0, known_more m n k p h.1, known_more m n k q h.2)
 
-pub at_all : (P : Object → Type 0) (y : ℕ) (l : List Object) → All P l → is_some (at y l) ≡ true → (o : Object) × (at y l ≡ Some o) × P o
+pub at_all : (P : Object → Type 0) (y : ℕ) (l : List Object) → AllByRecursion P l → is_some (at y l) ≡ true → (o : Object) × (at y l ≡ Some o) × P o
 at_all P y [] h e = let z : true ≡ false = sym e in absurd (both_ways true z refl)
 at_all P y (o ∷ l) h e = go (at_all P y l h.1) (is y o) refl
   where
@@ -50,7 +50,7 @@ stands_some : (p : ℕ) (n : List ℕ) (r : Option Object) → stands p n r ≡ 
 stands_some p n None h = h
 stands_some p n (Some o) h = refl
 
-module _ (m n : ℕ) (root : 1 < m) (l : List Object) (objs : All (Placed m n) l) where
+module _ (m n : ℕ) (root : 1 < m) (l : List Object) (objs : AllByRecursion (Placed m n) l) where
   known_at : (y : ℕ) → is_some (at y l) ≡ true → Known m n y
   known_at y h = let k = at_all (Placed m n) y l objs h in subst (Known m n) (eqb-true k.0.number y (at_number y k.0 l k.1)) k.2.0
 
@@ -74,14 +74,14 @@ module _ (m n : ℕ) (root : 1 < m) (l : List Object) (objs : All (Placed m n) l
   knows cap (rmdir y p o) k h = (known_more m n 0 y (known_at y (dir_is (at y l) h.0)), known_more m n 0 p (known_parent y p o h.1.0))
   knows cap (rename y p o q r) k h = (known_more m n 0 y (known_at y h.0), known_more m n 0 p (known_parent y p o h.1.0), known_more m n 0 q (known_dir q h.1.1.0))
 
-all_append : {X : Type 0} (P : X → Type 0) (l k : List X) → All P l → All P k → All P (l ++ k)
+all_append : {X : Type 0} (P : X → Type 0) (l k : List X) → AllByRecursion P l → AllByRecursion P k → AllByRecursion P (l ++ k)
 all_append P [] k h g = g
 all_append P (x ∷ l) k h g = (h.0, all_append P l k h.1 g)
 
-pub all_insert : (P : Object → Type 0) (o : Object) (l : List Object) → P o → All P l → All P (insert o l)
+pub all_insert : (P : Object → Type 0) (o : Object) (l : List Object) → P o → AllByRecursion P l → AllByRecursion P (insert o l)
 all_insert P o l k h = all_append P (keep (lower o.number) l) (o ∷ keep (higher o.number) l) (all_keep P (lower o.number) l h) (k, all_keep P (higher o.number) l h)
 
-pub all_change : (P : Object → Type 0) (x : ℕ) (g : Object → Object) → ((o : Object) → P o → P (g o)) → (l : List Object) → All P l → All P (change x g l)
+pub all_change : (P : Object → Type 0) (x : ℕ) (g : Object → Object) → ((o : Object) → P o → P (g o)) → (l : List Object) → AllByRecursion P l → AllByRecursion P (change x g l)
 all_change P x g k [] h = tt
 all_change P x g k (o ∷ l) h = (go (is x o), all_change P x g k l h.1)
   where
@@ -90,7 +90,7 @@ all_change P x g k (o ∷ l) h = (go (is x o), all_change P x g k l h.1)
     go false = h.0
 
 module _ (m n : ℕ) where
-  pub placed_effect : (s : Stamp) (e : Edit) (l : List Object) → Knows m n e → ((births (object e) e ≡ true) → 2 ≤ object e) → All (Placed m n) l → All (Placed m n) (effect s e l)
+  pub placed_effect : (s : Stamp) (e : Edit) (l : List Object) → Knows m n e → ((births (object e) e ≡ true) → 2 ≤ object e) → AllByRecursion (Placed m n) l → AllByRecursion (Placed m n) (effect s e l)
   placed_effect s (mkdir y p o) l k big h = all_insert (Placed m n) (fresh Directory p o y s) l (k.0, k.1, big (eq-eqb y y refl)) h
   placed_effect s (create y p o) l k big h = all_insert (Placed m n) (fresh File p o y s) l (k.0, k.1, big (eq-eqb y y refl)) h
   placed_effect s (store y c e) l k big h = all_change (Placed m n) y (with_contents c s) (λ o g. g) l h

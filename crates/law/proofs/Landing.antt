@@ -1,6 +1,6 @@
 -- What records land on, and what holds of each record of a log. Assumes nothing.
 use Rattle.std.proofs.Common.{◌≡◌, ℕ, ◌+◌, ◌≤◌, Bool, true, false, cond, not, ◌&&◌, eqb, ◌⊎◌, List, [], ◌∷◌, ◌++◌, None, sym, refl, ap, ◌∙◌, subst, inl, inr, arith}
-use Rattle.std.specs.List.{AllByRecursion as All}
+use Rattle.std.specs.List.{AllByRecursion}
 use Rattle.std.proofs.lemmas.Bool.{both_ways, or_from, or_cases, and_right, eqb-true, ne_eqb}
 use Rattle.vocab.specs.Limits.{temporary}
 use Rattle.model.specs.Applying.{effect}
@@ -93,7 +93,7 @@ module _ (x : ℕ) (t : ℕ → Bool) (rs : List Record) (none : some_of (lands_
   landing_cancel s (rename y p n q m) k = landing_push rs (rec s (rename y p n q m)) none k
 
 -- what holds of each record holds after the record e is entered
-module _ (P : Edit → Type 0) (t : ℕ → Bool) (rs : List Record) (each : All (λ r. P r.edit) rs) where
+module _ (P : Edit → Type 0) (t : ℕ → Bool) (rs : List Record) (each : AllByRecursion (λ r. P r.edit) rs) where
   abbrev pub Free : Edit → Type 0
   Free (mkdir y p n) = P (mkdir y p n)
   Free (create y p n) = P (create y p n)
@@ -102,18 +102,18 @@ module _ (P : Edit → Type 0) (t : ℕ → Bool) (rs : List Record) (each : All
   Free (rmdir y p n) = P (rmdir y p n)
   Free (rename y p n q m) = P (rename y p n q m)
 
-  pub all_cancel : (s : Stamp) (e : Edit) → Free e → All (λ r. P r.edit) (cancel t rs (rec s e))
+  pub all_cancel : (s : Stamp) (e : Edit) → Free e → AllByRecursion (λ r. P r.edit) (cancel t rs (rec s e))
   all_cancel s (mkdir y p n) k = all_push (λ r. P r.edit) rs (rec s (mkdir y p n)) each k
   all_cancel s (create y p n) k = all_push (λ r. P r.edit) rs (rec s (create y p n)) each k
   all_cancel s (store y c e) k = all_push (λ r. P r.edit) (erase_store y rs) (rec s (store y c (expected y e rs))) (all_erase (λ r. P r.edit) y rs each) (k (expected y e rs))
   all_cancel s (remove y p n e) k = go (t y)
     where
-      go : (b : Bool) → All (λ r. P r.edit) (cond b (erase_object y rs) (erase_store y rs ++ (rec s (remove y p n (expected y e rs)) ∷ [])))
+      go : (b : Bool) → AllByRecursion (λ r. P r.edit) (cond b (erase_object y rs) (erase_store y rs ++ (rec s (remove y p n (expected y e rs)) ∷ [])))
       go true = all_keep (λ r. P r.edit) (λ r. not (eqb (object r.edit) y)) rs each
       go false = all_push (λ r. P r.edit) (erase_store y rs) (rec s (remove y p n (expected y e rs))) (all_erase (λ r. P r.edit) y rs each) (k (expected y e rs))
   all_cancel s (rmdir y p n) k = go (t y && not (named_by_other y rs))
     where
-      go : (b : Bool) → All (λ r. P r.edit) (cond b (erase_object y rs) (rs ++ (rec s (rmdir y p n) ∷ [])))
+      go : (b : Bool) → AllByRecursion (λ r. P r.edit) (cond b (erase_object y rs) (rs ++ (rec s (rmdir y p n) ∷ [])))
       go true = all_keep (λ r. P r.edit) (λ r. not (eqb (object r.edit) y)) rs each
       go false = all_push (λ r. P r.edit) rs (rec s (rmdir y p n)) each k
   all_cancel s (rename y p n q m) k = all_push (λ r. P r.edit) rs (rec s (rename y p n q m)) each k
@@ -135,7 +135,7 @@ fresh_lands m n x k (remove y p o e) h = refl
 fresh_lands m n x k (rmdir y p o) h = refl
 fresh_lands m n x k (rename y p o q r) h = k q h.2
 
-pub fresh_landings : (m n x : ℕ) → ((p : ℕ) → Known m n p → eqb p x ≡ false) → (rs : List Record) → All (λ r. Knows m n r.edit) rs → some_of (lands_other x) rs ≡ false
+pub fresh_landings : (m n x : ℕ) → ((p : ℕ) → Known m n p → eqb p x ≡ false) → (rs : List Record) → AllByRecursion (λ r. Knows m n r.edit) rs → some_of (lands_other x) rs ≡ false
 fresh_landings m n x k [] h = refl
 fresh_landings m n x k (r ∷ rs) h = or_from (lands_other x r) (some_of (lands_other x) rs) (and_right (not (eqb (object r.edit) x)) (lands x r.edit) (fresh_lands m n x k r.edit h.0)) (fresh_landings m n x k rs h.1)
 

@@ -1,6 +1,6 @@
 -- Each file has one store at most. Assumes nothing.
 use Rattle.std.proofs.Common.{◌≡◌, ℕ, ◌≤◌, Bool, true, false, cond, not, ◌&&◌, ◌||◌, eqb, List, [], ◌∷◌, ◌++◌, map, sym, refl, ap, ◌∙◌, subst, ap₂}
-use Rattle.std.specs.List.{AllByRecursion as All}
+use Rattle.std.specs.List.{AllByRecursion}
 use Rattle.std.proofs.lemmas.Bool.{both_ways, or_parts, or_from, eqb-true, eqb-false, ne_eqb, cond_both}
 use Rattle.vocab.specs.Limits.{temporary}
 use Rattle.model.specs.Cancelling.{erase_object, erase_store, named_by_other}
@@ -29,18 +29,18 @@ lone_keep p (r ∷ rs) a = go (lone_keep p rs a.1) (p r)
     go ih true = (alone_keep p r.edit rs a.0, ih)
     go ih false = ih
 
-pub all_keep : {X : Type 0} (P : X → Type 0) (p : X → Bool) (l : List X) → All P l → All P (keep p l)
+pub all_keep : {X : Type 0} (P : X → Type 0) (p : X → Bool) (l : List X) → AllByRecursion P l → AllByRecursion P (keep p l)
 all_keep P p [] h = tt
 all_keep P p (x ∷ l) h = go (all_keep P p l h.1) (p x)
   where
-    go : All P (keep p l) → (b : Bool) → All P (cond b (x ∷ keep p l) (keep p l))
+    go : AllByRecursion P (keep p l) → (b : Bool) → AllByRecursion P (cond b (x ∷ keep p l) (keep p l))
     go ih true = (h.0, ih)
     go ih false = ih
 
 -- what holds of each record, or of none, does without a store
-pub all_erase : (P : Record → Type 0) (x : ℕ) (rs : List Record) → All P rs → All P (erase_store x rs)
+pub all_erase : (P : Record → Type 0) (x : ℕ) (rs : List Record) → AllByRecursion P rs → AllByRecursion P (erase_store x rs)
 all_erase P x [] h = tt
-all_erase P x (r ∷ rs) h = cond_both (stores x r.edit) rs (r ∷ erase_store x rs) (All P) (λ _. h.1) (λ _. (h.0, all_erase P x rs h.1))
+all_erase P x (r ∷ rs) h = cond_both (stores x r.edit) rs (r ∷ erase_store x rs) (AllByRecursion P) (λ _. h.1) (λ _. (h.0, all_erase P x rs h.1))
 
 pub some_erase : (p : Record → Bool) (x : ℕ) (rs : List Record) → some_of p rs ≡ false → some_of p (erase_store x rs) ≡ false
 some_erase p x [] h = refl
@@ -48,7 +48,7 @@ some_erase p x (r ∷ rs) h =
     let k = or_parts (p r) (some_of p rs) h in
     cond_both (stores x r.edit) rs (r ∷ erase_store x rs) (λ z. some_of p z ≡ false) (λ _. k.1) (λ _. or_from (p r) (some_of p (erase_store x rs)) k.0 (some_erase p x rs k.1))
 
-pub all_push : {X : Type 0} (P : X → Type 0) (l : List X) (x : X) → All P l → P x → All P (l ++ (x ∷ []))
+pub all_push : {X : Type 0} (P : X → Type 0) (l : List X) (x : X) → AllByRecursion P l → P x → AllByRecursion P (l ++ (x ∷ []))
 all_push P [] x h k = (k, tt)
 all_push P (y ∷ l) x h k = (h.0, all_push P l x h.1 k)
 
@@ -77,7 +77,7 @@ alone_none (remove x p n e) = tt
 alone_none (rmdir x p n) = tt
 alone_none (rename x p n q m) = tt
 
-lone_push : (rs : List Record) (r : Record) → Lone rs → All (λ q. Off r q.edit) rs → Lone (rs ++ (r ∷ []))
+lone_push : (rs : List Record) (r : Record) → Lone rs → AllByRecursion (λ q. Off r q.edit) rs → Lone (rs ++ (r ∷ []))
 lone_push [] r a k = (alone_none r.edit, tt)
 lone_push (q ∷ rs) r a k = (alone_push q.edit rs r a.0 k.0, lone_push rs r a.1 k.1)
 
@@ -90,7 +90,7 @@ off_plain r k (remove x p n e) = tt
 off_plain r k (rmdir x p n) = tt
 off_plain r k (rename x p n q m) = tt
 
-all_any : {X : Type 0} (P : X → Type 0) → ((x : X) → P x) → (l : List X) → All P l
+all_any : {X : Type 0} (P : X → Type 0) → ((x : X) → P x) → (l : List X) → AllByRecursion P l
 all_any P k [] = tt
 all_any P k (x ∷ l) = (k x, all_any P k l)
 
@@ -126,11 +126,11 @@ off_unstored x r k (remove y p n e) h = tt
 off_unstored x r k (rmdir y p n) h = tt
 off_unstored x r k (rename y p n q m) h = tt
 
-all_unstored : (x : ℕ) (r : Record) → ((y : ℕ) → eqb y x ≡ false → touches y r ≡ false) → (rs : List Record) → All (λ q. Off r q.edit) (unstored x rs)
+all_unstored : (x : ℕ) (r : Record) → ((y : ℕ) → eqb y x ≡ false → touches y r ≡ false) → (rs : List Record) → AllByRecursion (λ q. Off r q.edit) (unstored x rs)
 all_unstored x r k [] = tt
 all_unstored x r k (q ∷ rs) = go (all_unstored x r k rs) (stores x q.edit) refl
   where
-    go : All (λ q. Off r q.edit) (unstored x rs) → (b : Bool) → stores x q.edit ≡ b → All (λ q. Off r q.edit) (cond (not (stores x q.edit)) (q ∷ unstored x rs) (unstored x rs))
+    go : AllByRecursion (λ q. Off r q.edit) (unstored x rs) → (b : Bool) → stores x q.edit ≡ b → AllByRecursion (λ q. Off r q.edit) (cond (not (stores x q.edit)) (q ∷ unstored x rs) (unstored x rs))
     go ih true e = rw e ih
     go ih false e = rw e (off_unstored x r k q.edit e, ih)
 
@@ -179,10 +179,10 @@ module _ (m n b N : ℕ) (mb : m ≤ b) (bt : b ≤ temporary) (more : n ≤ N) 
   lands_settled x k (rmdir y p o) h = refl
   lands_settled x k (rename y p o q r) h = settle_eq m n b N mb bt more q x h.2 k
 
-  pub landings_settled : (x : ℕ) → Known m n x → (rs : List Record) → All (λ r. Knows m n r.edit) rs → some_of (lands_other (settle b N x)) (map (settled b N) rs) ≡ some_of (lands_other x) rs
+  pub landings_settled : (x : ℕ) → Known m n x → (rs : List Record) → AllByRecursion (λ r. Knows m n r.edit) rs → some_of (lands_other (settle b N x)) (map (settled b N) rs) ≡ some_of (lands_other x) rs
   landings_settled x k rs h = some_map_all (lands_other (settle b N x)) (lands_other x) (settled b N) rs (all_weaker (λ r. Knows m n r.edit) _ (λ r g. ap₂ (λ u v. not u && v) (object_settled m n b N mb bt more x k r.edit g) (lands_settled x k r.edit g)) rs h)
 
-  alone_settled : (e : Edit) (rs : List Record) → Knows m n e → All (λ r. Knows m n r.edit) rs → Alone e rs → Alone (settled_edit b N e) (map (settled b N) rs)
+  alone_settled : (e : Edit) (rs : List Record) → Knows m n e → AllByRecursion (λ r. Knows m n r.edit) rs → Alone e rs → Alone (settled_edit b N e) (map (settled b N) rs)
   alone_settled (mkdir x p o) rs k h a = tt
   alone_settled (create x p o) rs k h a = tt
   alone_settled (store x c e) rs k h a = some_map_all (touches (settle b N x)) (touches x) (settled b N) rs (all_weaker (λ r. Knows m n r.edit) _ (λ r g. touches_settled x k.0 (stamp_of r) r.edit g) rs h) ∙ a
@@ -190,6 +190,6 @@ module _ (m n b N : ℕ) (mb : m ≤ b) (bt : b ≤ temporary) (more : n ≤ N) 
   alone_settled (rmdir x p o) rs k h a = tt
   alone_settled (rename x p o q r) rs k h a = tt
 
-  pub lone_settled : (rs : List Record) → All (λ r. Knows m n r.edit) rs → Lone rs → Lone (map (settled b N) rs)
+  pub lone_settled : (rs : List Record) → AllByRecursion (λ r. Knows m n r.edit) rs → Lone rs → Lone (map (settled b N) rs)
   lone_settled [] h a = tt
   lone_settled (r ∷ rs) h a = (alone_settled r.edit rs h.0 h.1 a.0, lone_settled rs h.1 a.1)

@@ -1,6 +1,6 @@
 -- A log passes where all that its spell recorded does, and leaves the same. Assumes nothing.
 use Rattle.std.proofs.Common.{◌≡◌, ℕ, suc, ◌+◌, ◌<◌, ◌≤◌, leb, List, [], ◌∷◌, ◌++◌, Ok, Err, sym, refl, ap, ◌∙◌, subst, inl, append_assoc, append-nil, arith}
-use Rattle.std.specs.List.{AllByRecursion as All}
+use Rattle.std.specs.List.{AllByRecursion}
 use Rattle.std.proofs.lemmas.Bool.{or_from, lt-leb}
 use Rattle.vocab.specs.Limits.{temporary}
 use Rattle.model.specs.Applying.{applied, effect}
@@ -19,11 +19,11 @@ use Rattle.law.proofs.OneStep.{Below, from}
 use Rattle.law.proofs.Runs.{accepted, passed, passes_run, run_passes}
 use Rattle.law.proofs.Sound.{Sound, sound_begin, sound_more}
 
-pub placed_under : (m n : ℕ) (l : List Object) → 2 ≤ n → Ascends n l → All (λ o. (o.number < m) × (o.parent < m)) l → All (Placed m 0) l
+pub placed_under : (m n : ℕ) (l : List Object) → 2 ≤ n → Ascends n l → AllByRecursion (λ o. (o.number < m) × (o.parent < m)) l → AllByRecursion (Placed m 0) l
 placed_under m n [] two a h = tt
 placed_under m n (o ∷ l) two a h = ((inl h.0.0, inl h.0.1, omega (arith, a.0)), placed_under m (suc o.number) l (omega (arith, a.0)) a.1 h.1)
 
-below_under : (b : ℕ) (l : List Object) → All (λ o. (o.number < b) × (o.parent < b)) l → Below b l
+below_under : (b : ℕ) (l : List Object) → AllByRecursion (λ o. (o.number < b) × (o.parent < b)) l → Below b l
 below_under b [] h = refl
 below_under b (o ∷ l) h = or_from (from b o) (some_of (from b) l) (or_from (leb b o.number) (leb b o.parent) (lt-leb b o.number h.0.0) (lt-leb b o.parent h.0.1)) (below_under b l h.1)
 

@@ -1,6 +1,6 @@
 -- Every turn keeps what the loaders know of the server's stamps. Assumes nothing.
 use Rattle.std.proofs.Common.{◌≡◌, ℕ, ◌+◌, ◌<◌, ◌≤◌, Bool, true, false, not, ◌&&◌, ◌||◌, eqb, leb, ◌⊎◌, List, [], ◌∷◌, ◌++◌, length, take, drop, Some, None, Ok, Err, Option, Result, sym, refl, ap, ◌∙◌, subst, ap₂, inl, inr, arith}
-use Rattle.std.specs.List.{AllByRecursion as All}
+use Rattle.std.specs.List.{AllByRecursion}
 use Rattle.std.proofs.lemmas.List.{take_at}
 use Rattle.std.proofs.lemmas.Bool.{both_ways, ne_eqb, leb-true, cond-true, cond_both}
 use Rattle.model.specs.declared.answer.Answer.{Answer}
@@ -43,12 +43,12 @@ use Rattle.law.proofs.Turning.{sane_run, step_sane}
 
 -- ---- one record more
 
-each_cancel : (Q : Record → Type 0) (t : ℕ → Bool) (rs : List Record) (s : Stamp) (e : Edit) → ((e : Edit) → Q (rec s e)) → All Q rs → All Q (cancel t rs (rec s e))
+each_cancel : (Q : Record → Type 0) (t : ℕ → Bool) (rs : List Record) (s : Stamp) (e : Edit) → ((e : Edit) → Q (rec s e)) → AllByRecursion Q rs → AllByRecursion Q (cancel t rs (rec s e))
 each_cancel Q t rs s (mkdir y p n) k h = all_push Q rs (rec s (mkdir y p n)) h (k (mkdir y p n))
 each_cancel Q t rs s (create y p n) k h = all_push Q rs (rec s (create y p n)) h (k (create y p n))
 each_cancel Q t rs s (store y c e) k h = all_push Q (erase_store y rs) (rec s (store y c (expected y e rs))) (all_erase Q y rs h) (k (store y c (expected y e rs)))
-each_cancel Q t rs s (remove y p n e) k h = cond_both (t y) _ _ (All Q) (λ _. all_keep Q (λ r. not (eqb (object r.edit) y)) rs h) (λ _. all_push Q (erase_store y rs) (rec s (remove y p n (expected y e rs))) (all_erase Q y rs h) (k (remove y p n (expected y e rs))))
-each_cancel Q t rs s (rmdir y p n) k h = cond_both (t y && not (named_by_other y rs)) _ _ (All Q) (λ _. all_keep Q (λ r. not (eqb (object r.edit) y)) rs h) (λ _. all_push Q rs (rec s (rmdir y p n)) h (k (rmdir y p n)))
+each_cancel Q t rs s (remove y p n e) k h = cond_both (t y) _ _ (AllByRecursion Q) (λ _. all_keep Q (λ r. not (eqb (object r.edit) y)) rs h) (λ _. all_push Q (erase_store y rs) (rec s (remove y p n (expected y e rs))) (all_erase Q y rs h) (k (remove y p n (expected y e rs))))
+each_cancel Q t rs s (rmdir y p n) k h = cond_both (t y && not (named_by_other y rs)) _ _ (AllByRecursion Q) (λ _. all_keep Q (λ r. not (eqb (object r.edit) y)) rs h) (λ _. all_push Q rs (rec s (rmdir y p n)) h (k (rmdir y p n)))
 each_cancel Q t rs s (rename y p n q m) k h = all_push Q rs (rec s (rename y p n q m)) h (k (rename y p n q m))
 
 number_late : (k : ℕ) (e : Edit) → Numbered k e → Late e
@@ -284,10 +284,10 @@ module _ (w : World) (ps : Pasts) (sane : Sane w ps) (told : Told w ps) (a : ℕ
             let g = replay_stands out.from s.given w.server sane.server out.early top out.records out.sound.records t (ap (λ l. replay s.given l w.server) (sym out.lies) ∙ e) in
             let f = replay_passes s.given (log s d) w.server t e in
             let v = put_loader (comes_home d) (put_server t w) in
-            let fresh : All (λ r. Old w (stamp_of r) → ⊥) (log s d) =
+            let fresh : AllByRecursion (λ r. Old w (stamp_of r) → ⊥) (log s d) =
             all_weaker (Spans a s.base d.serial) (λ r. Old w (stamp_of r) → ⊥) (λ r k old. omega (arith, old.1 d (ap (λ z. loader_of z w.loaders) k.0 ∙ there), k.1, level_is d (away s) gone)) (log s d) off.1.spans
             in
-            let now : All (λ r. Old v (stamp_of r)) (log s d) =
+            let now : AllByRecursion (λ r. Old v (stamp_of r)) (log s d) =
             all_weaker (Spans a s.base d.serial) (λ r. Old v (stamp_of r)) (λ r k. (λ z. absurd (omega (arith, k.0, tells.0)), λ f h. let same : f ≡ comes_home d = put_own (comes_home d) w.loaders f (subst (λ z. loader_of z (with_loader (comes_home d) w.loaders) ≡ Some f) (k.0 ∙ sym mine) h) in subst (λ z. r.serial ≤ level z.state z.serial) (sym same) k.2)) (log s d) off.1.spans
             in
             put_told w ps told a d there (comes_home d) mine t g.1 home_up ps

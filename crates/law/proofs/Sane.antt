@@ -4,7 +4,7 @@
 --     Fit next d p             the loader d and its past p agree
 --     Sane w ps                the server's numbers lie below its next, the loaders' numbers differ, and each fits its past
 use Rattle.std.proofs.Common.{◌≡◌, ℕ, ◌<◌, ◌≤◌, true, false, eqb, List, take, Some, Result, sym, refl, ap, ◌∙◌, subst, inl, inr, arith}
-use Rattle.std.specs.List.{AllByRecursion as All}
+use Rattle.std.specs.List.{AllByRecursion}
 use Rattle.std.proofs.lemmas.Bool.{both_ways, eq-eqb, ne_eqb, cond-true, cond-false}
 use Rattle.model.specs.declared.answer.Fault.{Fault}
 use Rattle.model.specs.Loaders.{Loader, Spell as Stay, State, away, guard, home}
@@ -55,7 +55,7 @@ Fit next d p = (d.serial ≡ p.edits) × In next d.copy d.memory p d.state
 pub record Sane (w : World) (ps : Pasts) : Type 0 where
   pub server : Stands w.server
   pub differ : NumbersDiffer w.loaders
-  pub each : All (λ d. Fit w.server.next d (ps d.number)) w.loaders
+  pub each : AllByRecursion (λ d. Fit w.server.next d (ps d.number)) w.loaders
 
 pub later : (k n : ℕ) → k ≤ n → (copy : Tree) (memory : List Record) (p : Past) (r : State) → In k copy memory p r → In n copy memory p r
 later k n le copy memory p (home b) h = λ e. let g = h e in record { from = g.from; above = g.above; early = omega (arith, g.early); top = g.top; seen = g.seen; like = g.like }

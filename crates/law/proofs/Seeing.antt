@@ -1,7 +1,7 @@
 -- A join overwrites only what the loader saw, and touches only what is listed. Assumes nothing.
 use Rattle.std.proofs.Common.{◌≡◌, ℕ, ◌<◌, ◌≤◌, Bool, true, false, cond, eqb, ◌⊎◌, List, [], ◌∷◌, map, Some, None, Ok, Err, Option, Result, sym, refl, ap, ◌∙◌, subst, inl, inr, arith}
 use Rattle.std.specs.Option.{option_map}
-use Rattle.std.specs.List.{AllByRecursion as All}
+use Rattle.std.specs.List.{AllByRecursion}
 use Rattle.std.proofs.lemmas.Bool.{both_ways, or_cases, eqb-true, eqb-false, ne_eqb}
 use Rattle.model.specs.declared.answer.Answer.TheVariants.{Conflicting, Records, Refused}
 use Rattle.model.specs.declared.answer.Conflict.{Conflict}
@@ -70,7 +70,7 @@ awaits_known m n x t (remove y p o u) k h = go (eqb y x) refl h
 awaits_known m n x t (rmdir y p o) k h = absurd (never t h)
 awaits_known m n x t (rename y p o q r) k h = absurd (never t h)
 
-awaited_known : (m n x : ℕ) (t : Stamp) (rs : List Record) → All (λ r. Knows m n r.edit) rs → awaited x rs ≡ Some t → Known m n x
+awaited_known : (m n x : ℕ) (t : Stamp) (rs : List Record) → AllByRecursion (λ r. Knows m n r.edit) rs → awaited x rs ≡ Some t → Known m n x
 awaited_known m n x t [] k h = absurd (never t h)
 awaited_known m n x t (r ∷ rs) k h = go (awaited_known m n x t rs k.1) (awaits x r.edit) refl h
   where
@@ -123,7 +123,7 @@ none_parts None p h = (refl, h)
 none_parts (Some t) p h = absurd (never t (sym h))
 
 module _ (b N : ℕ) (bt : b ≤ temporary) (x : ℕ) (lt : x < b) where
-  leaves_all : (cap : ℕ) (rs : List Record) (l : List Object) (o : Object) → at x l ≡ Some o → regular o ≡ true → All (λ r. Knows b N r.edit) rs → All (λ r. Late r.edit) rs → Passes cap (map (settled b N) rs) l → awaited x rs ≡ None → Left x o (final (map (settled b N) rs) l)
+  leaves_all : (cap : ℕ) (rs : List Record) (l : List Object) (o : Object) → at x l ≡ Some o → regular o ≡ true → AllByRecursion (λ r. Knows b N r.edit) rs → AllByRecursion (λ r. Late r.edit) rs → Passes cap (map (settled b N) rs) l → awaited x rs ≡ None → Left x o (final (map (settled b N) rs) l)
   leaves_all cap [] l o here plain k a h f = (o, here, refl, refl)
   leaves_all cap (r ∷ rs) l o here plain k a h f =
       let n = none_parts (awaits x r.edit) (awaited x rs) f in
@@ -174,8 +174,8 @@ module _ (w : World) (start : Start w) (ts : List Turn) (a : ℕ) (d : Loader) (
       let k = at_all (λ o. (o.number < v.server.next) × (o.parent < v.server.next)) x v.server.objects sane.server.under.below (ap is_some e) in
       subst (λ z. z < v.server.next) (eqb-true k.0.number x (at_number x k.0 v.server.objects k.1)) k.2.0
 
-  known : All (λ r. Knows out.from s.given r.edit) (log s d)
-  known = subst (All (λ r. Knows out.from s.given r.edit)) (sym out.lies) out.sound.records
+  known : AllByRecursion (λ r. Knows out.from s.given r.edit) (log s d)
+  known = subst (AllByRecursion (λ r. Knows out.from s.given r.edit)) (sym out.lies) out.sound.records
 
   abbrev Ran : (Tree × Loader) × Result (Result ℕ Clash) Fault → Type 0
   Ran z = (t : Tree) × (z.0.0 ≡ t) × (replay s.given (log s d) v.server ≡ Ok t)

@@ -1,6 +1,6 @@
 -- Temporary numbers settled: what cancels is the same. Assumes nothing.
 use Rattle.std.proofs.Common.{◌≡◌, ℕ, ◌+◌, ◌-◌, ◌<◌, ◌≤◌, Bool, true, false, cond, not, ◌&&◌, ◌||◌, eqb, ltb, leb, ◌⊎◌, List, [], ◌∷◌, ◌++◌, map, Some, sym, refl, ap, ◌∙◌, ap₂, inl, inr, arith}
-use Rattle.std.specs.List.{AllByRecursion as All}
+use Rattle.std.specs.List.{AllByRecursion}
 use Rattle.std.proofs.lemmas.Bool.{and_from, and_left, eq-eqb, ne_eqb, cases_eq, lt-ltb, lt-leb, le-leb}
 use Rattle.vocab.specs.Limits.{temporary}
 use Rattle.model.specs.Cancelling.{born, erase_object, erase_store, named_by_other, stored_before}
@@ -24,7 +24,7 @@ Knows m k (remove x p n e) = Known m k x × Known m k p
 Knows m k (rmdir x p n) = Known m k x × Known m k p
 Knows m k (rename x p n q o) = Known m k x × Known m k p × Known m k q
 
-pub keep_map_all : {X : Type 0} (p q : X → Bool) (g : X → X) (l : List X) → All (λ x. p (g x) ≡ q x) l → keep p (map g l) ≡ map g (keep q l)
+pub keep_map_all : {X : Type 0} (p q : X → Bool) (g : X → X) (l : List X) → AllByRecursion (λ x. p (g x) ≡ q x) l → keep p (map g l) ≡ map g (keep q l)
 keep_map_all p q g [] h = refl
 keep_map_all p q g (x ∷ l) h = rw h.0 (go (keep_map_all p q g l h.1) (q x))
   where
@@ -32,11 +32,11 @@ keep_map_all p q g (x ∷ l) h = rw h.0 (go (keep_map_all p q g l h.1) (q x))
     go ih true = ap (λ z. g x ∷ z) ih
     go ih false = ih
 
-pub some_map_all : {X : Type 0} (p q : X → Bool) (g : X → X) (l : List X) → All (λ x. p (g x) ≡ q x) l → some_of p (map g l) ≡ some_of q l
+pub some_map_all : {X : Type 0} (p q : X → Bool) (g : X → X) (l : List X) → AllByRecursion (λ x. p (g x) ≡ q x) l → some_of p (map g l) ≡ some_of q l
 some_map_all p q g [] h = refl
 some_map_all p q g (x ∷ l) h = rw (h.0, some_map_all p q g l h.1)
 
-pub all_weaker : {X : Type 0} (P Q : X → Type 0) → ((x : X) → P x → Q x) → (l : List X) → All P l → All Q l
+pub all_weaker : {X : Type 0} (P Q : X → Type 0) → ((x : X) → P x → Q x) → (l : List X) → AllByRecursion P l → AllByRecursion Q l
 all_weaker P Q k [] h = tt
 all_weaker P Q k (x ∷ l) h = (k x h.0, all_weaker P Q k l h.1)
 
@@ -92,7 +92,7 @@ module _ (m n b N : ℕ) (mb : m ≤ b) (bt : b ≤ temporary) (more : n ≤ N) 
   names_settled x k (rename y p o q r) h = ap₂ (λ u v. u || v) (settle_eq p x h.1 k) (settle_eq q x h.2 k)
 
   abbrev pub AllKnown : List Record → Type 0
-  AllKnown rs = All (λ r. Knows m n r.edit) rs
+  AllKnown rs = AllByRecursion (λ r. Knows m n r.edit) rs
 
   stored_settled : (x : ℕ) → Known m n x → (rs : List Record) → AllKnown rs → stored_before (settle b N x) (map (settled b N) rs) ≡ stored_before x rs
   stored_settled x k [] h = refl

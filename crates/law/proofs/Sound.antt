@@ -1,6 +1,6 @@
 -- A spell's log beside all that it recorded. Assumes nothing.
 use Rattle.std.proofs.Common.{◌≡◌, ℕ, ◌+◌, ◌<◌, ◌≤◌, true, false, not, eqb, List, [], ◌∷◌, ◌++◌, map, sym, refl, ap, ◌∙◌, subst, inl, inr, arith}
-use Rattle.std.specs.List.{AllByRecursion as All}
+use Rattle.std.specs.List.{AllByRecursion}
 use Rattle.std.proofs.lemmas.Bool.{and_left, and_right, eqb-true, ne_eqb, not_from_true}
 use Rattle.vocab.specs.Limits.{temporary}
 use Rattle.model.specs.Applying.{effect}
@@ -25,16 +25,16 @@ use Rattle.law.proofs.Settle.{Knows, all_weaker, cancel_settled}
 
 -- all records us of a spell, its log rs, the copy's objects l, and n numbers given out, where the spell began on numbers below m
 pub record Sound (m : ℕ) (us rs : List Record) (l : List Object) (n : ℕ) : Type 0 where
-  pub objects : All (Placed m n) l
-  pub records : All (λ r. Knows m n r.edit) rs
+  pub objects : AllByRecursion (Placed m n) l
+  pub records : AllByRecursion (λ r. Knows m n r.edit) rs
   pub bare : (x : ℕ) → is_file (at x l) ≡ true → some_of (lands_other x) rs ≡ false
   pub lone : Lone rs
   pub agree : (cap b N : ℕ) (k : List Object) → m ≤ b → b ≤ temporary → n ≤ N → Split k → Below b k → Passes cap (map (settled b N) us) k → Passes cap (map (settled b N) rs) k × (final (map (settled b N) rs) k ≡ final (map (settled b N) us) k)
 
-pub sound_begin : (m : ℕ) (l : List Object) → All (Placed m 0) l → Sound m [] [] l 0
+pub sound_begin : (m : ℕ) (l : List Object) → AllByRecursion (Placed m 0) l → Sound m [] [] l 0
 sound_begin m l h = record { objects = h; records = tt; bare = λ x f. refl; lone = tt; agree = λ cap b N k mb bt more s w p. (p, refl) }
 
-bare_of : (m n b N : ℕ) (mb : m ≤ b) (bt : b ≤ temporary) (more : n ≤ N) (cap : ℕ) (rs : List Record) (l : List Object) → All (λ r. Knows m n r.edit) rs → ((x : ℕ) → is_file (at x l) ≡ true → some_of (lands_other x) rs ≡ false) → (e : Edit) → Knows m n e → Holds (tests cap e l) → Bare b (map (settled b N) rs) (settled_edit b N e)
+bare_of : (m n b N : ℕ) (mb : m ≤ b) (bt : b ≤ temporary) (more : n ≤ N) (cap : ℕ) (rs : List Record) (l : List Object) → AllByRecursion (λ r. Knows m n r.edit) rs → ((x : ℕ) → is_file (at x l) ≡ true → some_of (lands_other x) rs ≡ false) → (e : Edit) → Knows m n e → Holds (tests cap e l) → Bare b (map (settled b N) rs) (settled_edit b N e)
 bare_of m n b N mb bt more cap rs l known bare (mkdir x p o) k h = tt
 bare_of m n b N mb bt more cap rs l known bare (create x p o) k h = tt
 bare_of m n b N mb bt more cap rs l known bare (store x c e) k h = tt
@@ -57,7 +57,7 @@ sound_more m root mt us rs l n old cap r num h = record {
     knew : Knows m n' r.edit
     knew = knows m n root l old.objects cap r.edit num h
 
-    known : All (λ r. Knows m n' r.edit) rs
+    known : AllByRecursion (λ r. Knows m n' r.edit) rs
     known = all_weaker (λ q. Knows m n q.edit) (λ q. Knows m n' q.edit) (λ q g. knows_more m n (given r.edit) q.edit g) rs old.records
 
     bare' : (x : ℕ) → is_file (at x (effect (stamp_of r) r.edit l)) ≡ true → some_of (lands_other x) (cancel (born n') rs r) ≡ false

@@ -5,7 +5,7 @@
 --     Agree seen l      where both have an object with one stamp, both have its body
 --     Spans a m n r     r is by a, with a serial above m and at most n
 use Rattle.std.proofs.Common.{◌≡◌, ℕ, ◌+◌, ◌<◌, ◌≤◌, Bool, true, false, cond, not, eqb, ltb, leb, ◌⊎◌, List, [], ◌∷◌, map, Some, None, Ok, Err, Option, sym, refl, ap, ◌∙◌, subst, inl, inr, arith}
-use Rattle.std.specs.List.{AllByRecursion as All}
+use Rattle.std.specs.List.{AllByRecursion}
 use Rattle.std.proofs.lemmas.Bool.{both_ways, and_parts, and_left, eqb-true, eqb-false, ne_eqb, lt-leb, cond-false}
 use Rattle.model.specs.Applying.{effect, same_stamp, stamped}
 use Rattle.model.specs.Cancelling.{born}
@@ -181,7 +181,7 @@ module _ (m n b N : ℕ) (mb : m ≤ b) (bt : b ≤ temporary) (more : n ≤ N) 
   awaits_old (rmdir y p o) k = refl
   awaits_old (rename y p o q r) k = refl
 
-  pub finds_awaited : (cap : ℕ) (rs : List Record) (l : List Object) (t : Stamp) → All (λ r. Knows m n r.edit) rs → All (λ r. Late r.edit) rs → Passes cap (map (settled b N) rs) l → awaited x rs ≡ Some t → Has x t l
+  pub finds_awaited : (cap : ℕ) (rs : List Record) (l : List Object) (t : Stamp) → AllByRecursion (λ r. Knows m n r.edit) rs → AllByRecursion (λ r. Late r.edit) rs → Passes cap (map (settled b N) rs) l → awaited x rs ≡ Some t → Has x t l
   finds_awaited cap [] l t k a h f = absurd (never t f)
   finds_awaited cap (r ∷ rs) l t k a h f = go (finds_awaited cap rs (effect (stamp_of r) e l) t k.1 a.1 h.1) (awaits x r.edit) refl f
     where
@@ -195,7 +195,7 @@ module _ (m n b N : ℕ) (mb : m ≤ b) (bt : b ≤ temporary) (more : n ≤ N) 
 -- ---- old stamps
 
 abbrev pub Used : (Stamp → Type 0) → List Object → Type 0
-Used Old l = All (λ o. Old o.stamp) l
+Used Old l = AllByRecursion (λ o. Old o.stamp) l
 
 abbrev pub Agree : List Object → List Object → Type 0
 Agree seen l = (x : ℕ) (o p : Object) → at x seen ≡ Some o → at x l ≡ Some p → o.stamp ≡ p.stamp → o.body ≡ p.body
@@ -224,11 +224,11 @@ module _ (Old : Stamp → Type 0) where
   used_effect s (rmdir y q n) l k h = all_keep (λ o. Old o.stamp) (λ o. not (is y o)) l h
   used_effect s (rename y q n r m) l k h = all_change (λ o. Old o.stamp) y (with_place r m) (λ o g. g) l h
 
-  pub agree_replay : (seen : List Object) (b N : ℕ) (rs : List Record) (l : List Object) → Used Old seen → All (λ r. Old (stamp_of r) → ⊥) rs → Agree seen l → Agree seen (final (map (settled b N) rs) l)
+  pub agree_replay : (seen : List Object) (b N : ℕ) (rs : List Record) (l : List Object) → Used Old seen → AllByRecursion (λ r. Old (stamp_of r) → ⊥) rs → Agree seen l → Agree seen (final (map (settled b N) rs) l)
   agree_replay seen b N [] l used k g = g
   agree_replay seen b N (r ∷ rs) l used k g = agree_replay seen b N rs (effect (stamp_of r) (settled_edit b N r.edit) l) used k.1 (agree_effect seen l (stamp_of r) (settled_edit b N r.edit) used k.0 g)
 
-  pub used_replay : (b N : ℕ) (rs : List Record) (l : List Object) → All (λ r. Old (stamp_of r)) rs → Used Old l → Used Old (final (map (settled b N) rs) l)
+  pub used_replay : (b N : ℕ) (rs : List Record) (l : List Object) → AllByRecursion (λ r. Old (stamp_of r)) rs → Used Old l → Used Old (final (map (settled b N) rs) l)
   used_replay b N [] l k g = g
   used_replay b N (r ∷ rs) l k g = used_replay b N rs (effect (stamp_of r) (settled_edit b N r.edit) l) k.1 (used_effect (stamp_of r) (settled_edit b N r.edit) l k.0 g)
 

@@ -2,7 +2,7 @@
 --     Stands t     the numbers and parents of t lie below its next number, itself at least 2 and not temporary
 --     Lows b e     the numbers that the edit e puts into a tree lie below b
 use Rattle.std.proofs.Common.{◌≡◌, ℕ, ◌+◌, ◌-◌, ◌<◌, ◌≤◌, Bool, true, false, cond, not, ◌&&◌, eqb, ltb, leb, List, [], ◌∷◌, map, Some, None, Ok, Err, Option, sym, refl, ap, ◌∙◌, subst, inl, inr, arith}
-use Rattle.std.specs.List.{AllByRecursion as All}
+use Rattle.std.specs.List.{AllByRecursion}
 use Rattle.std.proofs.lemmas.Bool.{both_ways, or_from, or_cases, and_parts, and_from, eqb-true, ltb-true, lt-ltb, leb-true, lt-leb, le-leb, cond_both, not-true}
 use Rattle.model.specs.Applying.{applied, effect}
 use Rattle.model.specs.Cancelling.{born}
@@ -146,12 +146,12 @@ module _ (m n b : ℕ) (mb : m ≤ b) (bt : b ≤ temporary) where
   settled_lows (rmdir x p o) k = tt
   settled_lows (rename x p o q r) k = settle_low q k.2
 
-  final_under : (cap : ℕ) (rs : List Record) (l : List Object) → All (λ r. Knows m n r.edit) rs → Passes cap (map (settled b n) rs) l → Under (b + n) l → Under (b + n) (final (map (settled b n) rs) l)
+  final_under : (cap : ℕ) (rs : List Record) (l : List Object) → AllByRecursion (λ r. Knows m n r.edit) rs → Passes cap (map (settled b n) rs) l → Under (b + n) l → Under (b + n) (final (map (settled b n) rs) l)
   final_under cap [] l k h g = g
   final_under cap (r ∷ rs) l k h g = final_under cap rs (effect (stamp_of r) (settled_edit b n r.edit) l) k.1 h.1 (effect_under (b + n) l g cap (stamp_of r) (settled_edit b n r.edit) h.0 (settled_lows r.edit k.0))
 
 module _ (m n : ℕ) (t : Tree) (ok : Stands t) (mb : m ≤ t.next) (room : t.next + n ≤ temporary) where
-  pub replay_stands : (rs : List Record) → All (λ r. Knows m n r.edit) rs → (u : Tree) → replay n rs t ≡ Ok u → Stands u × (t.next ≤ u.next)
+  pub replay_stands : (rs : List Record) → AllByRecursion (λ r. Knows m n r.edit) rs → (u : Tree) → replay n rs t ≡ Ok u → Stands u × (t.next ≤ u.next)
   replay_stands rs known u h = go (replayed t.next n rs t) refl h
     where
       go : (o : Outcome) → replayed t.next n rs t ≡ o → ◌≡◌ {A = Outcome} (elim o [ Ok w ↦ Ok (with_next w (t.next + n)) | Err c ↦ Err c ]) (Ok u) → Stands u × (t.next ≤ u.next)
@@ -183,6 +183,6 @@ module _ (m n : ℕ) (mt : m ≤ temporary) where
   names_none (rmdir x p o) k = or_from _ _ (not_strange x k.0) (not_strange p k.1)
   names_none (rename x p o q r) k = or_from _ _ (not_strange x k.0) (or_from _ _ (not_strange p k.1) (not_strange q k.2))
 
-  pub log_known : (rs : List Record) → All (λ r. Knows m n r.edit) rs → none_strange n rs ≡ true
+  pub log_known : (rs : List Record) → AllByRecursion (λ r. Knows m n r.edit) rs → none_strange n rs ≡ true
   log_known [] k = refl
   log_known (r ∷ rs) k = and_from (not (names_strange n r.edit)) (none_strange n rs) (ap not (names_none r.edit k.0)) (log_known rs k.1)

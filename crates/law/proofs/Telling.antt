@@ -4,7 +4,7 @@
 --     Gone             the log awaits of older files what the list does, and that is what was seen
 --     Told w ps        so for each loader of w
 use Rattle.std.proofs.Common.{◌≡◌, ℕ, ◌<◌, ◌≤◌, Bool, true, false, cond, eqb, List, [], ◌∷◌, take, Some, None, Option, sym, refl, ap, ◌∙◌, subst, arith}
-use Rattle.std.specs.List.{AllByRecursion as All}
+use Rattle.std.specs.List.{AllByRecursion}
 use Rattle.std.proofs.lemmas.Bool.{eqb-true, eqb-false, eq-eqb, ne_eqb, cond-true, cond-false}
 use Rattle.model.specs.Loaders.{Loader, Spell as Stay, State, away, home}
 use Rattle.model.specs.Past.{Past, Pasts, put_past, shadow}
@@ -30,8 +30,8 @@ pub record Saw (Was : Stamp → Type 0) (l : List Object) (p : Past) : Type 0 wh
 
 pub record Gone (a serial cap : ℕ) (rs : List Record) (p : Past) (s : Stay) : Type 0 where
   pub order : s.base ≤ serial
-  pub spans : All (Spans a s.base serial) rs
-  pub late : All (λ r. Late r.edit) rs
+  pub spans : AllByRecursion (Spans a s.base serial) rs
+  pub late : AllByRecursion (λ r. Late r.edit) rs
   pub alike : (x : ℕ) → x < temporary → awaited x rs ≡ awaited x p.list
   pub starts : (x : ℕ) (t : Stamp) → x < temporary → awaited x p.list ≡ Some t → Has x t p.seen
   pub rest : (x : ℕ) (t : Stamp) → x < temporary → awaited x p.list ≡ None → Has x t (shadow cap p).objects → Has x t p.seen

@@ -4,7 +4,7 @@
 --     Away a w d s     in w the loader of number a is d, and is away in the spell s
 -- The guarantees are the statements below: each name says what it means.
 use Rattle.std.specs.Prelude.{◌≡◌, ℕ, ◌+◌, ◌<◌, ◌≤◌, Bool, true, false, ◌||◌, List, [], ◌∷◌, ◌++◌, Some, None, Ok, Err}
-use Rattle.std.specs.List.{AllByRecursion as All}
+use Rattle.std.specs.List.{AllByRecursion}
 use Rattle.vocab.specs.Limits.{temporary}
 use Rattle.tree.specs.Questions.{regular}
 use Rattle.tree.specs.Trees.{Object, Tree, at, some_of}
@@ -26,10 +26,10 @@ pub record Start (w : World) : Type 0 where
   pub numbers : Under w.server.next w.server.objects
   pub low : 2 ≤ w.server.next
   pub high : w.server.next ≤ temporary
-  pub new : All (λ d. (d.serial ≡ 0) × (d.state ≡ home false) × (0 < d.number)) w.loaders
+  pub new : AllByRecursion (λ d. (d.serial ≡ 0) × (d.state ≡ home false) × (0 < d.number)) w.loaders
   pub differ : NumbersDiffer w.loaders
   -- no stamp is by a loader of the run, and the office's serials lie below the next number
-  pub stamps : All (λ o. (loader_of o.stamp.author w.loaders ≡ None) × (o.stamp.author ≡ 0 → o.stamp.serial < w.server.next)) w.server.objects
+  pub stamps : AllByRecursion (λ o. (loader_of o.stamp.author w.loaders ≡ None) × (o.stamp.author ≡ 0 → o.stamp.serial < w.server.next)) w.server.objects
 
 abbrev pub new_pasts : ℕ → Past
 new_pasts a = new_past

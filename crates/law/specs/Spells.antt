@@ -5,7 +5,7 @@
 --     logged n rs us     the log rs of a spell that has given out n numbers, after us are entered one by one
 -- Each record is entered with the count of the numbers given out so far, its own among them: see LogGrows.
 use Rattle.std.specs.Prelude.{◌≡◌, ℕ, ◌+◌, ◌<◌, List, [], ◌∷◌}
-use Rattle.std.specs.List.{AllByRecursion as All}
+use Rattle.std.specs.List.{AllByRecursion}
 use Rattle.vocab.specs.Limits.{temporary}
 use Rattle.tree.specs.Theorems.{Accepted}
 use Rattle.tree.specs.Trees.{Ascends, Object, Tree}
@@ -16,7 +16,7 @@ use Rattle.model.specs.Records.{Edit, mkdir, create, store, remove, rmdir, renam
 
 pub record Under (b : ℕ) (l : List Object) : Type 0 where
   pub ascending : Ascends 2 l
-  pub below : All (λ o. (o.number < b) × (o.parent < b)) l
+  pub below : AllByRecursion (λ o. (o.number < b) × (o.parent < b)) l
 
 abbrev pub Numbered : ℕ → Edit → Type 0
 Numbered k (mkdir x p n) = x ≡ temporary + k

@@ -1,6 +1,6 @@
 -- What the sort of the files puts first. Assumes nothing.
 use Rattle.std.proofs.Common.{◌≡◌, ℕ, zero, suc, ◌<◌, min, Bool, true, false, cond, ◌&&◌, ◌||◌, eqb, ltb, ◌⊎◌, List, [], ◌∷◌, map, length, take, Some, None, Option, sym, refl, ap, ◌∙◌, subst, ap₂, inl, inr, ⊎_elim, arith}
-use Rattle.std.specs.List.{AllByRecursion as All}
+use Rattle.std.specs.List.{AllByRecursion}
 use Rattle.std.proofs.ByRecursion.{All-take, All-weaker}
 use Rattle.std.proofs.lemmas.List.{length-take}
 use Rattle.std.proofs.lemmas.Bool.{and_parts, cases_order, cond_both, cond-false, cond-true, eqb-true, ltb-true, ne_eqb, or_cases}
@@ -16,11 +16,11 @@ use Rattle.model.specs.Hoard.{Hoard, Kept, Policy, age, before, chosen, last_use
 free_here : (x : ℕ) (o : Object) (l : List Object) → at x (o ∷ l) ≡ None → (o.number ≡ x → ⊥) × (at x l ≡ None)
 free_here x o l e = grind (arith, nat_tests)
 
-all_own : (n : ℕ) (l : List Object) → Ascends n l → All (λ o. at o.number l ≡ Some o) l
+all_own : (n : ℕ) (l : List Object) → Ascends n l → AllByRecursion (λ o. at o.number l ≡ Some o) l
 all_own n [] r = tt
 all_own n (o ∷ l) r = (grind (arith, nat_tests), All-weaker _ _ (λ p e. at_tail p.number n p o l r e) l (all_own (suc o.number) l r.1))
 
-all_at : (P : Object → Type 0) (x : ℕ) (p : Object) (l : List Object) → All P l → at x l ≡ Some p → P p
+all_at : (P : Object → Type 0) (x : ℕ) (p : Object) (l : List Object) → AllByRecursion P l → at x l ≡ Some p → P p
 all_at P x p [] h e = let z : ◌≡◌ {A = ℕ} 0 1 = cc in absurd (omega arith)
 all_at P x p (o ∷ l) h e = let ih = all_at P x p l h.1 in grind (arith, nat_tests, h.0)
 
@@ -28,11 +28,11 @@ at_number : (x : ℕ) (p : Object) (l : List Object) → at x l ≡ Some p → p
 at_number x p [] e = let z : ◌≡◌ {A = ℕ} 0 1 = cc in absurd (omega arith)
 at_number x p (o ∷ l) e = let ih = at_number x p l in grind (arith, nat_tests)
 
-keep_passes : (P : Object → Type 0) (q : Object → Bool) (l : List Object) → All P l → All (λ o. P o × (q o ≡ true)) (keep q l)
+keep_passes : (P : Object → Type 0) (q : Object → Bool) (l : List Object) → AllByRecursion P l → AllByRecursion (λ o. P o × (q o ≡ true)) (keep q l)
 keep_passes P q [] h = tt
 keep_passes P q (o ∷ l) h =
     let ih = keep_passes P q l h.1 in
-    cond_both (q o) (o ∷ keep q l) (keep q l) (All (λ o. P o × (q o ≡ true))) (λ e. ((h.0, e), ih)) (λ _. ih)
+    cond_both (q o) (o ∷ keep q l) (keep q l) (AllByRecursion (λ o. P o × (q o ≡ true))) (λ e. ((h.0, e), ih)) (λ _. ih)
 
 -- ---- the order
 
@@ -64,11 +64,11 @@ first_differs g m n (inr u) e = omega arith
 -- ---- the sort
 
 module _ (f : Policy) (h : Hoard) where
-  all_placed : (P : Object → Type 0) (o : Object) (l : List Object) → P o → All P l → All P (placed_in f h o l)
+  all_placed : (P : Object → Type 0) (o : Object) (l : List Object) → P o → AllByRecursion P l → AllByRecursion P (placed_in f h o l)
   all_placed P o [] q r = (q, tt)
-  all_placed P o (p ∷ l) q r = cond_both (before f h o p) (o ∷ p ∷ l) (p ∷ placed_in f h o l) (All P) (λ _. (q, r)) (λ _. (r.0, all_placed P o l q r.1))
+  all_placed P o (p ∷ l) q r = cond_both (before f h o p) (o ∷ p ∷ l) (p ∷ placed_in f h o l) (AllByRecursion P) (λ _. (q, r)) (λ _. (r.0, all_placed P o l q r.1))
 
-  all_sorted : (P : Object → Type 0) (l : List Object) → All P l → All P (sorted f h l)
+  all_sorted : (P : Object → Type 0) (l : List Object) → AllByRecursion P l → AllByRecursion P (sorted f h l)
   all_sorted P [] r = tt
   all_sorted P (o ∷ l) r = all_placed P o (sorted f h l) r.0 (all_sorted P l r.1)
 
@@ -118,7 +118,7 @@ module _ (f : Policy) (h : Hoard) where
   take_ordered (suc k) [] r = tt
   take_ordered (suc k) (o ∷ s) r = (All-take (GoesBefore f h o) k s r.0, take_ordered k s r.1)
 
-  none_like : (x : ℕ) (s : List Object) → All (λ p. p.number ≡ x → ⊥) s → at x s ≡ None
+  none_like : (x : ℕ) (s : List Object) → AllByRecursion (λ p. p.number ≡ x → ⊥) s → at x s ≡ None
   none_like x [] r = refl
   none_like x (o ∷ s) r = cond-false (is x o) (Some o) (at x s) (ne_eqb o.number x r.0) ∙ none_like x s r.1
 
@@ -129,7 +129,7 @@ module _ (f : Policy) (h : Hoard) where
   ordered_apart [] r = tt
   ordered_apart (o ∷ s) r = (none_like o.number s (All-weaker _ _ (λ p g. goes_differs o p g) s r.0), ordered_apart s r.1)
 
-  left_out : (x : ℕ) (p : Object) (k : ℕ) (s : List Object) → InOrder f h s → at x s ≡ Some p → at x (take k s) ≡ None → All (λ o. GoesBefore f h o p) (take k s)
+  left_out : (x : ℕ) (p : Object) (k : ℕ) (s : List Object) → InOrder f h s → at x s ≡ Some p → at x (take k s) ≡ None → AllByRecursion (λ o. GoesBefore f h o p) (take k s)
   left_out x p zero s r e g = tt
   left_out x p (suc k) [] r e g = tt
   left_out x p (suc k) (o ∷ s) r e g =
@@ -158,20 +158,20 @@ module _ (f : Policy) (h : Hoard) (l : List Object) where
 
   -- each of c is in d, or behind all of it
   abbrev Within : List Object → List Object → Type 0
-  Within c d = All (λ o. (at o.number d ≡ Some o) ⊎ All (λ p. GoesBefore f h p o) d) c
+  Within c d = AllByRecursion (λ o. (at o.number d ≡ Some o) ⊎ AllByRecursion (λ p. GoesBefore f h p o) d) c
 
-  within : (c d : List Object) → FirstSixteen f h l d → All File c → Within c d
+  within : (c d : List Object) → FirstSixteen f h l d → AllByRecursion File c → Within c d
   within c d w r = All-weaker File _ one c r
     where
-      one : (o : Object) → File o → (at o.number d ≡ Some o) ⊎ All (λ p. GoesBefore f h p o) d
+      one : (o : Object) → File o → (at o.number d ≡ Some o) ⊎ AllByRecursion (λ p. GoesBefore f h p o) d
       one o g = go (at o.number d) refl
         where
-          go : (r : Option Object) → at o.number d ≡ r → (r ≡ Some o) ⊎ All (λ p. GoesBefore f h p o) d
+          go : (r : Option Object) → at o.number d ≡ r → (r ≡ Some o) ⊎ AllByRecursion (λ p. GoesBefore f h p o) d
           go None e = inr (w.best o.number o g.0 g.1 e)
           go (Some q) e = inl (sym (all_at File o.number q d w.files e).0 ∙ ap (λ x. at x l) (at_number o.number q d e) ∙ g.0)
 
   -- the head is what goes first
-  not_behind : (o p : Object) (d : List Object) → All (GoesBefore f h p) d → (at o.number (p ∷ d) ≡ Some o) ⊎ All (λ q. GoesBefore f h q o) (p ∷ d) → (p ≡ o) ⊎ GoesBefore f h p o
+  not_behind : (o p : Object) (d : List Object) → AllByRecursion (GoesBefore f h p) d → (at o.number (p ∷ d) ≡ Some o) ⊎ AllByRecursion (λ q. GoesBefore f h q o) (p ∷ d) → (p ≡ o) ⊎ GoesBefore f h p o
   not_behind o p d b (inr k) = inr k.0
   not_behind o p d b (inl k) = go (is o.number p) refl
     where
@@ -189,7 +189,7 @@ module _ (f : Policy) (h : Hoard) (l : List Object) where
         ]
       ]
 
-  tails : (o : Object) (d c : List Object) → All (GoesBefore f h o) c → Within c (o ∷ d) → Within c d
+  tails : (o : Object) (d c : List Object) → AllByRecursion (GoesBefore f h o) c → Within c (o ∷ d) → Within c d
   tails o d [] a u = tt
   tails o d (q ∷ c) a u = (⊎_elim (λ k. inl (sym (cond-false (is q.number o) (Some o) (at q.number d) (ne_eqb o.number q.number (λ e. goes_differs f h o q a.0 (sym e)))) ∙ k)) (λ k. inr k.1) u.0, tails o d c a.1 u.1)
 
@@ -201,8 +201,8 @@ module _ (f : Policy) (h : Hoard) (l : List Object) where
       let k = same_head o p c d a b u v in
       ap₂ (λ x y. x ∷ y) k
       (one_list c d (omega arith) a.1 b.1
-      (tails p d c (subst (λ q. All (GoesBefore f h q) c) k a.0) u.1)
-      (tails o c d (subst (λ q. All (GoesBefore f h q) d) (sym k) b.0) v.1))
+      (tails p d c (subst (λ q. AllByRecursion (GoesBefore f h q) c) k a.0) u.1)
+      (tails o c d (subst (λ q. AllByRecursion (GoesBefore f h q) d) (sym k) b.0) v.1))
 
 pub are_one_list : FirstSixteenAreOneList
 are_one_list f h l c d u v = one_list f h l c d (u.count ∙ sym v.count) u.ordered v.ordered (within f h l c d v u.files) (within f h l d c u v.files)

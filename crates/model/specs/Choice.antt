@@ -4,7 +4,7 @@
 --     Apart c                  no two of c have one number
 --     FirstSixteen f h l c    c is what the hoard h shall keep of the objects l
 use Rattle.std.specs.Prelude.{◌≡◌, ℕ, ◌<◌, min, true, ◌⊎◌, List, [], ◌∷◌, map, length, Some, None}
-use Rattle.std.specs.List.{AllByRecursion as All}
+use Rattle.std.specs.List.{AllByRecursion}
 use Rattle.tree.specs.Questions.{is_some, regular}
 use Rattle.tree.specs.Trees.{Ascends, Object, at, keep}
 use Rattle.model.specs.Hoard.{Hoard, Policy, chosen, kept_in, priority, walked}
@@ -14,7 +14,7 @@ GoesBefore f h o p = (priority f h p < priority f h o) ⊎ ((priority f h o ≡ 
 
 abbrev pub InOrder : Policy → Hoard → List Object → Type 0
 InOrder f h [] = Unit {0}
-InOrder f h (o ∷ c) = All (GoesBefore f h o) c × InOrder f h c
+InOrder f h (o ∷ c) = AllByRecursion (GoesBefore f h o) c × InOrder f h c
 
 abbrev pub Apart : List Object → Type 0
 Apart [] = Unit {0}
@@ -24,11 +24,11 @@ pub record FirstSixteen (f : Policy) (h : Hoard) (l c : List Object) : Type 0 wh
   -- 16, or as many as there are files
   pub count : length c ≡ min 16 (length (keep regular l))
   -- each is a file of l, as it stands there
-  pub files : All (λ o. (at o.number l ≡ Some o) × (regular o ≡ true)) c
+  pub files : AllByRecursion (λ o. (at o.number l ≡ Some o) × (regular o ≡ true)) c
   pub apart : Apart c
   pub ordered : InOrder f h c
   -- each goes before every file of l that is left out
-  pub best : (x : ℕ) (p : Object) → at x l ≡ Some p → regular p ≡ true → at x c ≡ None → All (λ o. GoesBefore f h o p) c
+  pub best : (x : ℕ) (p : Object) → at x l ≡ Some p → regular p ≡ true → at x c ≡ None → AllByRecursion (λ o. GoesBefore f h o p) c
 
 -- for every policy, every hoard, and every list of objects whose numbers ascend, as in each lawful tree
 abbrev pub KeepsTheFirstSixteen : Type 0
