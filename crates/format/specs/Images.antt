@@ -12,7 +12,7 @@
 --     sections_in n d f bs  the sections of d directories and f files in bs, with next number n
 --     sections_read bs      the same, by the next number and the counts that stand in bs
 --     decoded cap bs        the tree of capacity cap whose image bs begins with
---     tree_in bs n d f       the tree of d directories and f files in bs, with next number n and as much room as bs has
+--     tree_in bs n d f      the tree of d directories and f files in bs, with next number n and as much room as bs has
 --     Begins bs s           bs begins with the image of the sections s
 --     fronted bs p field    bs with the field written over it from p on, where bs are enough for an image; else bs
 use Rattle.std.specs.Prelude.{◌≡◌, ℕ, ◌+◌, ◌*◌, cond, List, [], ◌∷◌, ◌++◌, length, drop, nat_lt}

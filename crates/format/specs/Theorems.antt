@@ -1,9 +1,9 @@
 -- What is proved of images. Assumes nothing.
 --     Encodable t               t has an image: its counts of directories and of files fit two bytes
 --     Alike t u                 t and u are equal, capacity aside
---     ImageDecodesBack        the image of a lawful tree gives it back, capacity aside
---     AlikeHaveOneImage      trees that are equal, capacity aside, have one image
---     ImageTellsTheTree      lawful trees with one image are equal, capacity aside
+--     ImageDecodesBack          the image of a lawful tree gives it back, capacity aside
+--     AlikeHaveOneImage         trees that are equal, capacity aside, have one image
+--     ImageTellsTheTree         lawful trees with one image are equal, capacity aside
 use Rattle.std.specs.Prelude.{◌≡◌, ℕ, ◌^◌, ◌<◌, List, ◌++◌, length}
 use Rattle.tree.specs.Law.{Lawful}
 use Rattle.tree.specs.Trees.{Tree}

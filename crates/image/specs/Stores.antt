@@ -1,8 +1,8 @@
 -- What an image store stands for. Assumes nothing.
---     bytes_of s       the bytes that it owns
---     tree_of s        the tree that they stand for
---     store_sections s    the sections of that tree
---     spare_of s       its bytes, where they are too few for an image
+--     bytes_of s        the bytes that it owns
+--     tree_of s         the tree that they stand for
+--     store_sections s  the sections of that tree
+--     spare_of s        its bytes, where they are too few for an image
 use Rattle.std.specs.Prelude.{ℕ, cond, List, [], length, vec_items, nat_lt}
 use Rattle.tree.specs.Trees.{Tree}
 use Rattle.format.specs.Images.{Sections, sections_of, tree_in}

@@ -1,6 +1,6 @@
 -- What is proved of spells and their logs. Assumes nothing.
---     CancellingLosesNothing     where all that a spell recorded would pass on a later tree, its log passes, and leaves the same tree
---     CountGrows, CopyGrows, SpellGrows, LogGrows     what one record more at the end does
+--     CancellingLosesNothing       where all that a spell recorded would pass on a later tree, its log passes, and leaves the same tree
+--     CountGrows, CopyGrows, SpellGrows, LogGrows    what one record more at the end does
 use Rattle.std.specs.Prelude.{◌≡◌, ℕ, ◌+◌, ◌<◌, ◌≤◌, List, [], ◌∷◌, ◌++◌, Ok}
 use Rattle.vocab.specs.Limits.{temporary}
 use Rattle.tree.specs.Theorems.{Accepted}

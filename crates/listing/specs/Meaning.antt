@@ -1,6 +1,6 @@
 -- What the code's types stand for in a walk. Assumes nothing.
 --     trail s        the numbers that a stack holds
---     place_of w      how far w has come
+--     place_of w     how far w has come
 use Rattle.std.specs.Prelude.{ℕ, List, map}
 use Rattle.stack.specs.declared.Stack.{Stack}
 use Rattle.stack.specs.Stacks.{places, stacked}

@@ -1,8 +1,8 @@
 -- What a walk keeps, said without the way in which it is found. Assumes nothing.
---     GoesBefore f h o p      o has a higher priority than p under the policy f, or the same and a lower number
---     InOrder f h c           each of c goes before all that stand behind it
+--     GoesBefore f h o p       o has a higher priority than p under the policy f, or the same and a lower number
+--     InOrder f h c            each of c goes before all that stand behind it
 --     Apart c                  no two of c have one number
---     FirstSixteen f h l c    c is what the hoard h shall keep of the objects l
+--     FirstSixteen f h l c     c is what the hoard h shall keep of the objects l
 use Rattle.std.specs.Prelude.{◌≡◌, ℕ, ◌<◌, min, true, ◌⊎◌, List, [], ◌∷◌, map, length, Some, None}
 use Rattle.std.specs.List.{AllByRecursion}
 use Rattle.tree.specs.Questions.{is_some, regular}

@@ -1,8 +1,8 @@
 -- What rows of memory stand for. Assumes nothing.
---     object_of e         the object that an entry holds
---     objects_in rows     the objects of the rows, by number
---     capacity_of rows    how many of the rows can be used: all, but at most 4,096
---     tree_in rows n      the tree that the rows stand for, with next number n
+--     object_of e        the object that an entry holds
+--     objects_in rows    the objects of the rows, by number
+--     capacity_of rows   how many of the rows can be used: all, but at most 4,096
+--     tree_in rows n     the tree that the rows stand for, with next number n
 --     on p r             whether the row r holds an object that passes the test p
 --     free r             whether it holds none
 --     FirstAt p rows i   the test p passes at i, and at no place before it

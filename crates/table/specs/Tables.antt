@@ -1,6 +1,6 @@
 -- What a table stands for. Assumes nothing.
---     rows_of t      the rows that it owns
---     tree_of t      the tree that they stand for
+--     rows_of t     the rows that it owns
+--     tree_of t     the tree that they stand for
 use Rattle.std.specs.Prelude.{List, vec_items}
 use Rattle.tree.specs.Trees.{Tree}
 use Rattle.rows.specs.declared.row.Row.{Row}

@@ -1,6 +1,6 @@
 -- The law of trees. Assumes nothing.
 --     Lawful t           t is a lawful tree
---     LawfulObject      what the law says of an object of the list l of a tree of capacity cap
+--     LawfulObject       what the law says of an object of the list l of a tree of capacity cap
 --     empty cap          the tree of a store that was just opened
 -- `climbs cap 1 p l` says that the parents lead from p to the root: no way up is longer than the tree's capacity.
 use Rattle.std.specs.Prelude.{◌≡◌, ℕ, ◌^◌, ◌<◌, ◌≤◌, true, List, [], length, Some}

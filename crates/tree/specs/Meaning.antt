@@ -1,5 +1,5 @@
 -- What the code's types stand for in a tree. Assumes nothing.
---     status_of s     the object that s shows, but for its contents
+--     status_of s    the object that s shows, but for its contents
 use Rattle.vocab.specs.declared.status.Status.{Status}
 use Rattle.vocab.specs.Meaning.{name_of}
 use Rattle.tree.specs.Trees.{Object}

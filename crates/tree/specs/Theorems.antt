@@ -1,10 +1,10 @@
 -- What is proved of the definitions. Assumes nothing.
 --     Exactly P Q                P holds exactly where Q does
 --     Accepted c                 the change c was accepted
---     KeptIfRefused t c        where the change c of t was refused, it left t as it was
+--     KeptIfRefused t c          where the change c of t was refused, it left t as it was
 --     Above x p l                x is p, or is come to from p by some number of steps from an object to its parent
---     LawfulByAnyWay t        the law of trees, with ways to the root of any length
---     ButFor x t u              u is as t, but for the object x
+--     LawfulByAnyWay t           the law of trees, with ways to the root of any length
+--     ButFor x t u               u is as t, but for the object x
 --     unless x r                 the number r, or none where it is x
 --     Child p x l                x is the number of an object of p
 --     Named p n x l              x is the number of an object of p that is named n

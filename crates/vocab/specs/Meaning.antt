@@ -1,7 +1,7 @@
 -- What the types of the code stand for. Assumes nothing.
---     bytes_of b      the bytes that b holds
---     name_of n       the bytes of a name
---     contents_of c   the bytes of a file's contents
+--     bytes_of b     the bytes that b holds
+--     name_of n      the bytes of a name
+--     contents_of c  the bytes of a file's contents
 --     numbered n     a number or none, as an object's number or none; values gives it back
 use Rattle.std.specs.Prelude.{ℕ, List, take, Option}
 use Rattle.std.specs.Option.{option_map}
