@@ -1,4 +1,3 @@
-pub mod Laid
+pub mod Filling
 pub mod Naming
 pub mod Judging
-pub mod Numbering

@@ -1,21 +1,23 @@
 -- The test of a name, and the laws of `same_name`: it is an equivalence. Assumes nothing.
-use Rattle.std.proofs.Common.{◌≡◌, ℕ, ◌+◌, ◌<◌, ◌≤◌, true, false, ◌&&◌, eqb, leb, List, [], ◌∷◌, length, get_or, drop, sym, refl, ap, ◌∙◌, arith}
+use Rattle.std.proofs.Common.{◌≡◌, ℕ, zero, suc, ◌<◌, ◌≤◌, Bool, true, false, eqb, ◌==◌, leb, List, [], ◌∷◌, length, sym, refl, ap, ◌∙◌, arith}
 use Rattle.std.specs.Str.{bytes_eq}
 use Rattle.std.proofs.lemmas.Slice.Eq.{bytes_eq-Decides}
-use Rattle.std.proofs.lemmas.List.{at_drop_more}
+use Rattle.std.specs.Bool.{MatchBool}
+use Rattle.std.specs.List.{All, AllWithin, HoldsAt}
+use Rattle.std.proofs.lemmas.List.Elements.{All-from_all_within}
 use Rattle.std.proofs.lemmas.Bool.{both_ways, or_right, and_parts, and_from, and_left, and_right, eqb-true, eq-eqb, lt-leb, le-leb}
 use Rattle.std.proofs.lemmas.Bool.Decides.{nat_tests}
 use Rattle.vocab.specs.Names.{every, name_byte, name_or_none, same_name, valid_name}
 
 -- ---- valid names
 module _ (n : List ℕ) where
-  pub valid_within : 1 ≤ length n → length n ≤ 24 → valid_name n ≡ every name_byte n
+  pub valid_within : length n == 0 ≡ false → length n ≤ 24 → valid_name n ≡ every name_byte n
   unfolding valid_name
-  valid_within h k = rw (le-leb 1 (length n) h, le-leb (length n) 24 k)
+  valid_within h k = rw (le-leb 1 (length n) (grind (arith, nat_tests)), le-leb (length n) 24 k)
 
-  pub valid_none : length n < 1 → valid_name n ≡ false
+  pub valid_none : length n ≡ 0 → valid_name n ≡ false
   unfolding valid_name
-  valid_none h = and_left (leb 1 (length n)) _ (lt-leb 1 (length n) h)
+  valid_none h = and_left (leb 1 (length n)) _ (lt-leb 1 (length n) (omega arith))
 
   pub valid_long : 24 < length n → valid_name n ≡ false
   unfolding valid_name
@@ -29,12 +31,20 @@ module _ (n : List ℕ) where
   unfolding name_or_none
   named h = or_right (eqb (length n) 0) _ h
 
-  module _ (i : ℕ) (h : i < length n) where
-    pub bytes_more : name_byte (get_or n i 0) ≡ true → every name_byte (drop i n) ≡ every name_byte (drop (i + 1) n)
-    bytes_more e = at_drop_more (every name_byte) n i 0 h ∙ ap (λ b. b && every name_byte (drop (i + 1) n)) e
+-- the answer of a search for a byte that fails a test
+module _ (p : ℕ → Bool) where
+  every_passes : (n : List ℕ) → All (λ b. p b ≡ true) n → every p n ≡ true
+  every_passes [] h = refl
+  every_passes (b ∷ n) h = and_from (p b) (every p n) (h 0 0 (omega arith)) (every_passes n (λ k d q. h (suc k) d (omega arith)))
 
-    pub bytes_here : name_byte (get_or n i 0) ≡ false → every name_byte (drop i n) ≡ false
-    bytes_here e = at_drop_more (every name_byte) n i 0 h ∙ ap (λ b. b && every name_byte (drop (i + 1) n)) e
+  one_fails : (n : List ℕ) (k : ℕ) → k < length n → HoldsAt (λ b. p b ≡ false) n k → every p n ≡ false
+  one_fails [] k h e = absurd (omega arith)
+  one_fails (b ∷ n) zero h e = and_left (p b) (every p n) (e 0)
+  one_fails (b ∷ n) (suc k) h e = and_right (p b) (every p n) (one_fails n k (omega arith) e)
+
+  pub every_from_cases : (n : List ℕ) (r : Bool) → MatchBool r (AllWithin (λ b. p b ≡ true) n 0 (length n)) ((k : ℕ) × (k < length n) × HoldsAt (λ b. p b ≡ false) n k) → r ≡ every p n
+  every_from_cases n true h = sym (every_passes n (All-from_all_within (λ b. p b ≡ true) n h))
+  every_from_cases n false h = sym (one_fails n h.0 h.1 h.2)
 
 pub unnamed : name_or_none [] ≡ true
 unfolding name_or_none

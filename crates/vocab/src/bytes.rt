@@ -1,33 +1,51 @@
-// At most N bytes, held in place; the places behind them are 0.
-ghost use Rattle.std.specs.Prelude.{◌≡◌, ◌-◌, ◌<◌, ◌≤◌, [], length, take, drop, replicate, MatchOption};
+// At most N bytes, held in place; the places behind them are 0. No Vec, since no call allocates; no ArrayVec,
+// which is no Copy and does not say what stands behind its bytes.
+ghost use Rattle.std.specs.Prelude.{◌≡◌, ◌<◌, ◌≤◌, [], length, MatchOption};
 ghost use Rattle.vocab.specs.Buffers.{padded};
 
-#[derive(Clone, Copy)]
+use crate::limits::LONGEST_CONTENTS;
+use std::marker::Model;
+
+#[derive(Clone, Copy, PartialEq, Eq, Hash, Debug)]
 pub struct Bytes<const N: usize> {
     len: usize,
     held: [u8; N],
-    ghost within: { len ≤ N },
-    ghost filled: { drop len held ≡ replicate (N - len) 0 },
+}
+
+impl<const N: usize> Model for Bytes<N> {
+    ghost use Rattle.std.specs.Prelude.{◌≡◌, ℕ, ◌≤◌, List, length, take};
+    ghost use Rattle.vocab.specs.Buffers.{padded};
+    ghost use Rattle.vocab.specs.Places.{front_length};
+    ghost use Rattle.std.proofs.Common.{sym, ap, ◌∙◌};
+
+    ghost Value = { List ℕ };
+
+    ghost view = { λ b. take b.len b.held };
+
+    ghost invariant = { λ b. (b.len ≤ N) × (b.held ≡ padded N (take b.len b.held)) };
+
+    ghost inverse = { λ l. record { len = length l; held = padded N l } };
+
+    ghost inverse_ok = { λ b h. ap (λ n. record { len = n; held = padded N (take b.len b.held) }) (front_length N b.len b.held h.0 h.1) ∙ ap (λ bs. record { len = b.len; held = bs }) (sym h.1) };
 }
 
 impl<const N: usize> Bytes<N> {
     // None where there are more than N.
     pub fn new(bytes: &[u8]) -> Option<Bytes<N>>
-        ensures { MatchOption result (N < length bytes.now) (λ b. (length bytes.now ≤ N) × (take b.len b.held ≡ bytes.now)) }
+        ensures { MatchOption result (N < length bytes.now) (λ b. (length bytes.now ≤ N) × (b ≡ bytes.now)) }
     {
         let len = bytes.len();
         if len > N {
             return None;
         }
         let mut held = [0; N];
-        for i in 0..len {
-            held[i] = bytes[i];
-        }
+        let places = &mut held[..];
+        places[0..len].copy_from_slice(bytes);
         Some(Bytes { len, held })
     }
 
     pub fn empty() -> Bytes<N>
-        ensures { take result.len result.held ≡ [] }
+        ensures { result ≡ [] }
     {
         Bytes {
             len: 0,
@@ -36,22 +54,20 @@ impl<const N: usize> Bytes<N> {
     }
 
     pub fn as_slice(&self) -> &[u8]
-        ensures { result.now ≡ take self.now.len self.now.held }
+        ensures value { result.now ≡ self.now }
+        ensures short { length result.now ≤ N }
     {
-        let all = &self.held[..];
-        &all[0..self.len]
+        let places = &self.held[..];
+        &places[0..self.len]
     }
 
     // The bytes, and zeros behind them.
     pub fn filled(&self) -> &[u8]
-        ensures { result.now ≡ padded N (take self.now.len self.now.held) }
+        ensures { result.now ≡ padded N self.now }
     {
-        let places = &self.held[..];
-        places
+        self.held.as_slice()
     }
 }
-
-pub const LONGEST_CONTENTS: usize = 256;
 
 // What a file holds.
 pub type Contents = Bytes<LONGEST_CONTENTS>;

@@ -1,6 +1,8 @@
-// Which part of the software refused, and the word that it prints.
+// Which part of the software refused, and the word that is printed of it.
 ghost use Rattle.std.specs.Prelude.{◌≡◌};
 ghost use Rattle.vocab.specs.Layers.{word};
+
+use std::fmt;
 
 #[derive(Clone, Copy, PartialEq, Eq, Debug)]
 pub enum Layer {
@@ -22,5 +24,16 @@ impl Layer {
             Layer::Copy => "copy",
             Layer::Loader => "loader",
         }
+    }
+}
+
+impl fmt::Display for Layer {
+    ghost use Rattle.std.specs.Prelude.{Some};
+    ghost use Rattle.vocab.specs.Layers.{word};
+
+    ghost output = { λ layer. Some (word layer) };
+
+    fn fmt<W: fmt::Write>(&self, f: &mut fmt::Formatter<W>) -> fmt::Result {
+        f.write_str(self.word())
     }
 }

@@ -5,6 +5,7 @@ pub mod buffer;
 pub mod bytes;
 pub mod kind;
 pub mod layer;
+pub mod limits;
 pub mod name;
 pub mod number;
 pub mod refusal;

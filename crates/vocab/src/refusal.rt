@@ -1,4 +1,10 @@
 // Why a call is refused: one case for each number from 1 to 25.
+ghost use Rattle.std.specs.Prelude.{◌≡◌};
+ghost use Rattle.vocab.specs.Refusals.{number_of};
+
+use std::error::Error;
+use std::fmt;
+
 #[derive(Clone, Copy, PartialEq, Eq, Debug)]
 pub enum Refusal {
     BadName = 1,
@@ -27,3 +33,26 @@ pub enum Refusal {
     BadLoader = 24,
     BadImage = 25,
 }
+
+// The number that is printed.
+impl From<Refusal> for u8 {
+    ghost from_gives = { λ refusal number. number ≡ number_of refusal };
+
+    fn from(refusal: Refusal) -> u8 {
+        refusal as u8
+    }
+}
+
+impl fmt::Display for Refusal {
+    ghost use Rattle.std.specs.Prelude.{Some};
+    ghost use Rattle.std.specs.Fmt.{decimal};
+    ghost use Rattle.vocab.specs.Refusals.{number_of};
+
+    ghost output = { λ refusal. Some (decimal (number_of refusal)) };
+
+    fn fmt<W: fmt::Write>(&self, f: &mut fmt::Formatter<W>) -> fmt::Result {
+        write!(f, "{}", u8::from(*self))
+    }
+}
+
+impl Error for Refusal {}

@@ -4,7 +4,7 @@ use crate::name::Name;
 use crate::number::Number;
 use crate::stamp::Stamp;
 
-#[derive(Clone, Copy)]
+#[derive(Clone, Copy, PartialEq, Eq, Hash, Debug)]
 pub struct Status {
     pub number: Number,
     pub kind: Kind,
