@@ -1,15 +1,28 @@
 -- Questions of a tree, over its sections and by what stands at a number. Assumes nothing.
-use Rattle.std.proofs.Common.{◌≡◌, ℕ, suc, ◌<◌, ◌≤◌, Bool, true, false, ◌&&◌, eqb, ltb, List, [], ◌∷◌, Some, None, sym, refl, ap, ◌∙◌, ⊎_elim, arith}
+use Rattle.std.proofs.Common.{◌≡◌, ℕ, suc, ◌<◌, ◌≤◌, Bool, true, false, ◌&&◌, eqb, ltb, List, [], ◌∷◌, Some, None, Option, is_some, sym, refl, ap, ◌∙◌, ⊎_elim, arith}
+use Rattle.std.specs.Option.{option_map}
 use Rattle.std.proofs.lemmas.Bool.{both_ways, or_parts, and_parts, and_from, eqb-true, eq-eqb, ne_eqb, ltb-true, lt-ltb, cases_Bool, cond-true, cond-false}
 use Rattle.vocab.specs.Names.{same_name}
 use Rattle.vocab.proofs.Naming.{same_over}
 use Rattle.tree.specs.Law.{Lawful}
-use Rattle.tree.specs.Questions.{child, child_of, look, placed, taken}
+use Rattle.tree.specs.Questions.{bare, child, child_of, has_child, look, placed, shown, taken}
 use Rattle.tree.specs.Trees.{Ascends, Object, Tree, at, is}
 use Rattle.tree.proofs.Ascending.{ascends_at, at_low, at_tail}
 use Rattle.tree.proofs.Changed.{some_at}
 
+-- ---- object
+pub shown_some : (x : ℕ) (l : List Object) → (x ≡ 1 → ⊥) → (o : Object) → Some o ≡ shown x l → (q : Object) × (at x l ≡ Some q) × (o ≡ bare q)
+shown_some x l other o e = go (at x l) (e ∙ cond-false (eqb x 1) _ _ (ne_eqb x 1 other))
+  where
+    go : (r : Option Object) → Some o ≡ option_map bare r → (q : Object) × (r ≡ Some q) × (o ≡ bare q)
+    go None e = absurd cc
+    go (Some q) e = (q, refl, cc)
+
 -- ---- look
+pub look_taken : (p : ℕ) (s : List ℕ) (l : List Object) → is_some (look p s l) ≡ taken p s l
+look_taken p s [] = refl
+look_taken p s (o ∷ l) = let ih = look_taken p s l in grind (arith, cases_Bool (placed p s o))
+
 pub look_none : (p : ℕ) (s : List ℕ) (l : List Object) → taken p s l ≡ false → look p s l ≡ None
 look_none p s [] h = refl
 look_none p s (o ∷ l) h = let w = or_parts (placed p s o) (taken p s l) h in rw w.0 (look_none p s l w.1)
@@ -41,6 +54,14 @@ look_found t w p s x o e h =
     v.2 ∙ ap Some (sym (w.names x v.0 o v.1 e v.3 (placed_alike p s o v.1 h v.4)))
 
 -- ---- child
+-- 0 is below every number
+pub child_has : (p n : ℕ) (l : List Object) → 0 < n → Ascends n l → is_some (child p 0 l) ≡ has_child p l
+child_has p n [] low r = refl
+child_has p n (o ∷ l) low r =
+    let ih = child_has p (suc o.number) l (omega arith) r.1 in
+    let above = lt-ltb 0 o.number (omega (arith, r.0)) in
+    grind (arith, cases_Bool (child_of p o))
+
 module _ (p a : ℕ) where
   pub child_none : (n : ℕ) (l : List Object) → Ascends n l → ((y : ℕ) (q : Object) → at y l ≡ Some q → q.parent ≡ p → a < y → ⊥) → child p a l ≡ None
   child_none n [] r h = refl

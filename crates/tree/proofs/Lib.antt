@@ -12,4 +12,3 @@ pub mod After
 pub mod AnyWay
 pub mod Inserting
 pub mod Steps
-pub mod Answering

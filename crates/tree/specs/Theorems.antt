@@ -10,7 +10,7 @@
 --     Named p n x l              x is the number of an object of p that is named n
 use Rattle.std.specs.Prelude.{◌≡◌, ℕ, ◌^◌, ◌<◌, ◌≤◌, true, false, cond, ◌&&◌, List, length, Some, None, Ok, Err, Decides, Option, ◌==◌}
 use Rattle.std.specs.Option.{option_map}
-use Rattle.vocab.specs.Limits.{temporary}
+use Rattle.vocab.specs.Limits.{longest_contents, temporary}
 use Rattle.vocab.specs.declared.kind.Kind.{Kind}
 use Rattle.vocab.specs.declared.refusal.Refusal.{Refusal}
 use Rattle.vocab.specs.declared.stamp.Stamp.{Stamp}
@@ -81,7 +81,7 @@ pub record LawfulObjectByAnyWay (l : List Object) (o : Object) : Type 0 where
   pub number : o.number < 2 ^ 32
   pub name : valid_name o.name ≡ true
   pub stamp : StampFits o.stamp
-  pub short : length (contents o) ≤ 256
+  pub short : length (contents o) ≤ longest_contents
   pub home : dir_at o.parent l ≡ true
   pub rooted : Above 1 o.parent l
 

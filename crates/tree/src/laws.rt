@@ -6,7 +6,7 @@ ghost use Rattle.tree.specs.Theorems.{AddLeavesRest, PutLeavesRest, DropLeavesRe
 ghost use Rattle.tree.specs.Theorems.{AtAfterAdd, AtAfterPut, AtAfterDrop, AtAfterMove, LookAfterAdd, LookAfterPut, LookAfterDrop, LookAfterMove};
 ghost use Rattle.tree.specs.Theorems.{LookFinds, LookInNoDirectory, LookForNoName, ChildFinds, ChildFindsNone};
 
-pub fn changes_keep_the_law() -> u8
+pub fn changes_keep_the_law()
     ensures start { EmptyIsLawful }
     ensures adds { AddKeepsLaw }
     ensures puts { PutKeepsLaw }
@@ -14,42 +14,34 @@ pub fn changes_keep_the_law() -> u8
     ensures moves { MoveKeepsLaw }
     ensures next { NextKeepsLaw }
     ensures clears { ClearKeepsLaw }
-{
-    0
-}
+{}
 
-pub fn refusals_change_nothing() -> u8
+pub fn refusals_change_nothing()
     ensures adds { AddRefused }
     ensures puts { PutRefused }
     ensures drops { DropRefused }
     ensures moves { MoveRefused }
     ensures next { NextRefused }
-{
-    0
-}
+{}
 
 // The bound on the steps of a way up bounds nothing in a tree within its capacity.
-pub fn climbs_by_any_steps() -> u8
+pub fn climbs_by_any_steps()
     ensures steps { ClimbsByAnySteps }
     ensures law { LawByAnyWay }
-{
-    0
-}
+{}
 
 // Accepted or not, a change leaves all but its own object as it was.
-pub fn changes_leave_the_rest() -> u8
+pub fn changes_leave_the_rest()
     ensures adds { AddLeavesRest }
     ensures puts { PutLeavesRest }
     ensures drops { DropLeavesRest }
     ensures moves { MoveLeavesRest }
     ensures next { NextLeavesRest }
     ensures clears { ClearLeavesRest }
-{
-    0
-}
+{}
 
 // By number and by name.
-pub fn lookups_after_changes() -> u8
+pub fn lookups_after_changes()
     ensures at_add { AtAfterAdd }
     ensures at_put { AtAfterPut }
     ensures at_drop { AtAfterDrop }
@@ -58,21 +50,15 @@ pub fn lookups_after_changes() -> u8
     ensures look_put { LookAfterPut }
     ensures look_drop { LookAfterDrop }
     ensures look_move { LookAfterMove }
-{
-    0
-}
+{}
 
-pub fn look_means() -> u8
+pub fn look_means()
     ensures finds { LookFinds }
     ensures no_directory { LookInNoDirectory }
     ensures no_name { LookForNoName }
-{
-    0
-}
+{}
 
-pub fn child_means() -> u8
+pub fn child_means()
     ensures finds { ChildFinds }
     ensures none { ChildFindsNone }
-{
-    0
-}
+{}

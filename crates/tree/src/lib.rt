@@ -4,3 +4,4 @@
 pub mod laws;
 pub mod root;
 pub mod store;
+pub mod view;
