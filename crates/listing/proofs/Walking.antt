@@ -1,15 +1,12 @@
 -- A walk from a sound place gives what was left, one number at a step. Assumes nothing.
 use Rattle.std.proofs.Common.{◌≡◌, ℕ, suc, ◌-◌, ◌<◌, ◌≤◌, Bool, true, false, List, [], ◌∷◌, ◌++◌, length, Some, None, Option, sym, refl, ap, ◌∙◌, append_assoc, arith}
+use Rattle.std.specs.Iterator.{YieldsFirst}
 use Rattle.std.specs.Option.{option_map}
-use Rattle.stack.specs.Stacks.{popped}
 use Rattle.tree.specs.Law.{Lawful}
 use Rattle.tree.specs.Questions.{child, dir_at}
 use Rattle.tree.specs.Trees.{Object, Tree}
-use Rattle.vocab.specs.declared.number.Number.{Number}
-use Rattle.vocab.specs.Meaning.{numbered, values}
-use Rattle.vocab.proofs.Numbering.{values_numbered}
 use Rattle.listing.specs.Listings.{beneath, listing}
-use Rattle.listing.specs.Walks.{Chain, Gives, Place, Sound, advance, beyond, entered, inner, left, left_from, onward, place}
+use Rattle.listing.specs.Walks.{Chain, Place, Sound, advance, beyond, entered, inner, left, left_from, onward, place, Step, Walk}
 use Rattle.listing.proofs.Beyond.{First, behind_first, beneath_file, beyond_all, beyond_first, beyond_none}
 use Rattle.listing.proofs.Chains.{chain_short}
 use Rattle.listing.proofs.Entering.{entered_file, entered_in}
@@ -35,12 +32,12 @@ module _ (t : Tree) (w : Lawful t) where
       ∙ ap (λ n. c ∷ (beneath m c l ++ (beyond n d c l ++ left_from t up d))) (sym k)
 
   -- what a step from the directories up and the number a comes to
-  record Steps (n : ℕ) (up : List ℕ) (a : ℕ) (q : Place) (r : Option ℕ) : Type 0 where
+  record Comes (n : ℕ) (up : List ℕ) (a : ℕ) (q : Place) (r : Option ℕ) : Type 0 where
     chain : Chain l q.path
     room : q.room ≡ n
-    pops : (left_from t q.path q.after, r) ≡ popped (left_from t up a)
+    gives : YieldsFirst (left t) (place n up a) r q
 
-  enters : (n : ℕ) (up : List ℕ) (a c : ℕ) → Chain l up → length l ≤ n → First (inner up) a c l → Steps n up a (entered l c (place n up a)) (Some c)
+  enters : (n : ℕ) (up : List ℕ) (a c : ℕ) → Chain l up → length l ≤ n → First (inner up) a c l → Comes n up a (entered l c (place n up a)) (Some c)
   enters n up a c ch h f = go (dir_at c l) refl
     where
       longer : Chain l (c ∷ up)
@@ -52,43 +49,50 @@ module _ (t : Tree) (w : Lawful t) where
       first : left_from t up a ≡ c ∷ (beneath (cap - suc (length up)) c l ++ left_from t up c)
       first = left_first up a c f (omega (arith, short, w.room))
 
-      go : (b : Bool) → dir_at c l ≡ b → Steps n up a (entered l c (place n up a)) (Some c)
+      go : (b : Bool) → dir_at c l ≡ b → Comes n up a (entered l c (place n up a)) (Some c)
       go true e =
           rw (entered_in l c n up a e (omega (arith, short))) (record {
             chain = longer;
             room = refl;
-            pops = sym (ap popped (first ∙ ap (λ z. c ∷ (z ++ left_from t up c)) (sym (beyond_all l (cap - suc (length up)) c 2 (omega arith) w.ascending))));
+            gives = first ∙ ap (λ z. c ∷ (z ++ left_from t up c)) (sym (beyond_all l (cap - suc (length up)) c 2 (omega arith) w.ascending));
           })
       go false e =
           rw (entered_file l c n up a e) (record {
             chain = ch;
             room = refl;
-            pops = sym (ap popped (first ∙ ap (λ z. c ∷ (z ++ left_from t up c)) (beneath_file t w (cap - suc (length up)) c e)));
+            gives = first ∙ ap (λ z. c ∷ (z ++ left_from t up c)) (beneath_file t w (cap - suc (length up)) c e);
           })
 
-  steps : (n : ℕ) (up : List ℕ) (a : ℕ) → Chain l up → length l ≤ n → Steps n up a (onward l n up a).0 (onward l n up a).1
-  steps n [] a ch h = go (child 1 a l) refl
+  comes : (n : ℕ) (up : List ℕ) (a : ℕ) → Chain l up → length l ≤ n → Comes n up a (onward l n up a).0 (onward l n up a).1
+  comes n [] a ch h = go (child 1 a l) refl
     where
       on : Option ℕ → Place × Option ℕ
       on r = elim r [ None ↦ (place n [] a, None) | Some c ↦ (entered l c (place n [] a), Some c) ]
 
-      go : (r : Option ℕ) → child 1 a l ≡ r → Steps n [] a (on r).0 (on r).1
-      go None e = let none = beyond_none l cap 1 a e in record { chain = tt; room = refl; pops = ap (λ z. (z, None)) none ∙ sym (ap popped none) }
+      go : (r : Option ℕ) → child 1 a l ≡ r → Comes n [] a (on r).0 (on r).1
+      go None e = let none = beyond_none l cap 1 a e in record { chain = tt; room = refl; gives = (none, none) }
       go (Some c) e = enters n [] a c ch h (behind_first 1 a c 2 l w.ascending e)
-  steps n (d ∷ up) a ch h = go (steps n up d ch.1 h) (child d a l) refl
+  comes n (d ∷ up) a ch h = go (comes n up d ch.1 h) (child d a l) refl
     where
       on : Option ℕ → Place × Option ℕ
       on r = elim r [ None ↦ onward l n up d | Some c ↦ (entered l c (place n (d ∷ up) a), Some c) ]
 
-      go : Steps n up d (onward l n up d).0 (onward l n up d).1 → (r : Option ℕ) → child d a l ≡ r → Steps n (d ∷ up) a (on r).0 (on r).1
-      go s None e = record { chain = s.chain; room = s.room; pops = s.pops ∙ sym (ap (λ z. popped (z ++ left_from t up d)) (beyond_none l (cap - suc (length up)) d a e)) }
+      go : Comes n up d (onward l n up d).0 (onward l n up d).1 → (r : Option ℕ) → child d a l ≡ r → Comes n (d ∷ up) a (on r).0 (on r).1
+      go s None e = record { chain = s.chain; room = s.room; gives = rw (beyond_none l (cap - suc (length up)) d a e) s.gives }
       go s (Some c) e = enters n (d ∷ up) a c ch h (behind_first d a c 2 l w.ascending e)
 
-  pub advance_gives : (p q : Place) (r : Option Number) → q ≡ (advance t p).0 → r ≡ numbered (advance t p).1 → Gives t p (values r) q
-  advance_gives p q r e f s =
-      let v = steps p.room p.path p.after s.chain s.room in
-      let same : values r ≡ (advance t p).1 = ap values f ∙ values_numbered (advance t p).1 in
-      rw (e, same) (record { chain = v.chain; room = omega (arith, v.room, s.room) }, v.pops)
+  pub begins : (n : ℕ) → left t (place n [] 0) ≡ listing t
+  begins n = beyond_all l cap 1 2 (omega arith) w.ascending
 
-  pub listing_left : (p : Place) (n : ℕ) → p ≡ place n [] 0 → length l ≤ n → Sound t p × (left t p ≡ listing t)
-  listing_left p n e h = rw e (record { chain = tt; room = h }, beyond_all l cap 1 2 (omega arith) w.ascending)
+pub steps : {V : Type 0} (tree : V → Tree) (w v : Walk V) (r : Option ℕ) → Lawful (tree w.view) → Sound (tree w.view) w.place → v.view ≡ w.view → (v.place, r) ≡ advance (tree w.view) w.place → Step tree w r v
+steps tree w v r law s same e =
+    let t = tree w.view in
+    let p = w.place in
+    let c = comes t law p.room p.path p.after s.chain s.room in
+    let to : v.place ≡ (advance t p).0 = ap (λ z. z.0) e in
+    record {
+      view = same;
+      place = e;
+      sound = rw (same, to) (record { chain = c.chain; room = omega (arith, c.room, s.room) });
+      gives = rw (same, to, ap (λ z. z.1) e) c.gives;
+    }

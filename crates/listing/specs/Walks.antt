@@ -12,11 +12,14 @@
 --     left t p           all that is still to be given
 --     Chain l up         each of up is an object of the next, and the last of the root
 --     Sound t p          the path is a chain, and there is room for as many as there are objects
---     Gives t p r q      from a sound place p, the walk comes to the sound place q, and r is the first of what was left, or none at the end
+--     Walk V             a walk through the tree that a view of type V shows: the view, and the place
+--     walk v p           the walk through v at the place p
+--     left_of tree w     all that is still to be given by w
+--     Step tree w r v    from the walk w, one step comes to the walk v and gives r, which is the first of what was left, or none at the end
 use Rattle.std.specs.Prelude.{◌≡◌, ℕ, zero, suc, ◌-◌, ◌≤◌, Bool, cond, ◌&&◌, List, [], ◌∷◌, ◌++◌, length, Some, None, Option, nat_lt}
 use Rattle.std.specs.List.{flat_map}
 use Rattle.std.specs.Option.{option_map}
-use Rattle.stack.specs.Stacks.{popped}
+use Rattle.std.specs.Iterator.{YieldsFirst}
 use Rattle.tree.specs.Questions.{child, child_of, dir_at}
 use Rattle.tree.specs.Trees.{Object, Tree, at, keep}
 use Rattle.listing.specs.Listings.{beneath}
@@ -71,5 +74,21 @@ pub record Sound (t : Tree) (p : Place) : Type 0 where
   pub chain : Chain t.objects p.path
   pub room : length t.objects ≤ p.room
 
-abbrev pub Gives : Tree → Place → Option ℕ → Place → Type 0
-Gives t p r q = Sound t p → Sound t q × ((left t q, r) ≡ popped (left t p))
+-- ---- walks
+
+pub record Walk (V : Type 0) : Type 0 where
+  pub view : V
+  pub place : Place
+
+abbrev pub walk : {V : Type 0} → V → Place → Walk V
+walk v p = record { view = v; place = p }
+
+module _ {V : Type 0} (tree : V → Tree) where
+  abbrev pub left_of : Walk V → List ℕ
+  left_of w = left (tree w.view) w.place
+
+  pub record Step (w : Walk V) (r : Option ℕ) (v : Walk V) : Type 0 where
+    pub view : v.view ≡ w.view
+    pub place : (v.place, r) ≡ advance (tree w.view) w.place
+    pub sound : Sound (tree v.view) v.place
+    pub gives : YieldsFirst left_of w r v

@@ -1,104 +1,93 @@
-// The listing of any store's tree, by a walk that holds the directories still to be finished.
+// The listing of any tree that is shown, by a walk that holds the directories still to be finished.
 #![tactic(auto)]
 
 ghost use Rattle.std.specs.Prelude.{◌≡◌, ◌<◌, ◌≤◌, [], length, IfOk, MatchResult};
+ghost use Rattle.std.specs.Iterator.{item_count};
 ghost use Rattle.vocab.specs.declared.refusal.Refusal.TheVariants.{ListShort};
-ghost use Rattle.vocab.specs.Meaning.{numbered, values};
-ghost use Rattle.stack.specs.Stacks.{places};
-ghost use Rattle.tree.specs.Questions.{dir_at};
 ghost use Rattle.listing.specs.Listings.{listing, ListsEachOnce};
-ghost use Rattle.listing.specs.Walks.{place, inner, entered, advance, left, Sound, Gives};
-ghost use Rattle.listing.specs.Meaning.{place_of};
+ghost use Rattle.listing.specs.Walks.{place, entered, Sound, walk, left_of, Step};
 
+use asking::questions::is_directory;
 use stack::Stack;
-use tree::store::Store;
-use vocab::kind::Kind;
+use std::marker::Model;
+use tree::view::TreeView;
 use vocab::number::Number;
 use vocab::refusal::Refusal;
 
 #[derive(Drop)]
-pub struct Listing<'s, 'p, 'r, S> {
-    store: &'s S,
+pub struct Listing<'v, 'r, V: TreeView> {
+    view: &'v V,
     // The directories entered and not yet finished; the root takes no place.
-    path: &'p mut Stack<'r, Number>,
+    path: Stack<'r, Number>,
     // The number last given among the objects of the innermost.
     after: Number,
 }
 
-impl<'s, 'p, 'r, S: Store> Listing<'s, 'p, 'r, S> {
-    // At the start of the listing; what the stack held goes.
-    pub fn new(
-        store: &'s S,
-        path: &'p mut Stack<'r, Number>,
-    ) -> Result<Listing<'s, 'p, 'r, S>, Refusal>
-        ensures answer { MatchResult result (λ w. (length (S.tree store.now).objects ≤ places path.old) × (place_of w ≡ place (places path.old) [] 0) × (w.store.now ≡ store.now)) (λ e. (places path.old < length (S.tree store.now).objects) × (e ≡ ListShort)) }
-        ensures begins { IfOk result (λ w. Sound (S.tree store.now) (place_of w) × (left (S.tree store.now) (place_of w) ≡ listing (S.tree store.now))) }
+impl<'v, 'r, V: TreeView> Model for Listing<'v, 'r, V> {
+    ghost use Rattle.listing.specs.Walks.{Walk, walk, Sound};
+
+    ghost Value = { Walk V };
+
+    ghost use Rattle.listing.specs.Meaning.{place_of};
+
+    ghost view = { λ w. walk w.view.now (place_of w) };
+
+    ghost invariant = { λ w. Sound (V.tree w.view.now) (place_of w) };
+}
+
+impl<'v, 'r, V: TreeView> Listing<'v, 'r, V> {
+    // At the start of the listing; what the list held goes.
+    pub fn new(view: &'v V, list: &'r mut [Number]) -> Result<Listing<'v, 'r, V>, Refusal>
+        ensures answer { MatchResult result
+            (λ w. (length (V.tree view.now).objects ≤ length list.old) × (w ≡ walk view.now (place (length list.old) [] 0)))
+            (λ e. (length list.old < length (V.tree view.now).objects) × (e ≡ ListShort)) }
+        ensures begins { IfOk result (λ w. Sound (V.tree view.now) w.place × (left_of V.tree w ≡ listing (V.tree view.now))) }
     {
-        if path.places() < store.count() {
+        if list.len() < view.count() {
             return Err(Refusal::ListShort);
         }
-        path.clear();
         Ok(Listing {
-            store,
-            path,
-            after: Number(0),
+            view,
+            path: Stack::new(list),
+            after: Number::BEFORE_ALL,
         })
     }
+}
 
-    // The next number of the listing.
-    pub fn next(&mut self) -> Option<Number>
-        ensures place { place_of self.new ≡ (advance (S.tree self.old.store.now) (place_of self.old)).0 }
-        ensures given { result ≡ numbered (advance (S.tree self.old.store.now) (place_of self.old)).1 }
-        ensures store { self.new.store.now ≡ self.old.store.now }
-        ensures follows { Gives (S.tree self.old.store.now) (place_of self.old) (values result) (place_of self.new) }
-    {
+impl<'v, 'r, V: TreeView> Iterator for Listing<'v, 'r, V> {
+    type Item = Number;
+
+    ghost next_gives = { Step V.tree };
+
+    ghost remaining = { item_count (left_of V.tree) };
+
+    fn next(&mut self) -> Option<Number> {
         loop {
-            if let Some(number) = self.store.child(self.directory(), self.after) {
-                self.enter(number);
+            let directory = self.path.top().unwrap_or(Number::ROOT);
+            if let Some(number) = self.view.child(directory, self.after) {
+                self.after = enter(self.view, &mut self.path, number);
                 return Some(number);
             }
-            match self.path.pop() {
-                Some(directory) => self.after = directory,
-                None => return None,
-            }
+            let finished = self.path.pop()?;
+            self.after = finished;
         }
     }
+}
 
-    // The innermost.
-    fn directory(&self) -> Number
-        ensures { result.0 ≡ inner (place_of self.now).path }
-    {
-        match self.path.top() {
-            Some(directory) => directory,
-            None => Number::ROOT,
-        }
-    }
-
-    // A directory that has no place on the stack is passed by, as a file is; from a sound place there always is one.
-    fn enter(&mut self, number: Number)
-        ensures place { place_of self.new ≡ entered (S.tree self.old.store.now).objects number.0 (place_of self.old) }
-        ensures store { self.new.store.now ≡ self.old.store.now }
-    {
-        if self.is_directory(number) && self.path.push(number).is_ok() {
-            self.after = Number(0);
-        } else {
-            self.after = number;
-        }
-    }
-
-    fn is_directory(&self, number: Number) -> bool
-        ensures { result ≡ dir_at number.0 (S.tree self.now.store.now).objects }
-    {
-        match self.store.object(number) {
-            Some(status) => status.kind == Kind::Directory,
-            None => false,
-        }
+// The number behind which the walk goes on. A directory that has no place on the stack is passed by, as a file is;
+// from a sound place there always is one.
+fn enter<V: TreeView>(view: &V, path: &mut Stack<'_, Number>, number: Number) -> Number
+    ensures { place path.new.places path.new.held result
+        ≡ entered (V.tree view.now).objects number (place path.old.places path.old.held number) }
+{
+    if is_directory(view, number) && path.push(number).is_ok() {
+        Number::BEFORE_ALL
+    } else {
+        number
     }
 }
 
 // Every object stands in the listing once, and nothing else does.
-pub fn lists_once() -> u8
+pub fn lists_once()
     ensures { ListsEachOnce }
-{
-    0
-}
+{}

@@ -1,6 +1,6 @@
 // What comes onto a stack, and leaves it.
-ghost use Rattle.std.specs.Prelude.{◌≡◌, [], reverse, length};
-ghost use Rattle.stack.specs.Stacks.{stacked, places, pushed, first, popped};
+ghost use Rattle.std.specs.Prelude.{◌≡◌, ◌≤◌, [], length};
+ghost use Rattle.stack.specs.Stacks.{pile, pushed, first, popped};
 
 use crate::Stack;
 use vocab::refusal::Refusal;
@@ -8,32 +8,30 @@ use vocab::refusal::Refusal;
 impl<'a, T: Copy> Stack<'a, T> {
     // Holds nothing.
     pub fn new(room: &'a mut [T]) -> Stack<'a, T>
-        ensures held { stacked result ≡ [] }
-        ensures places { places result ≡ length room.old }
+        ensures { result ≡ pile (length room.old) [] }
     {
         Stack { room, len: 0 }
     }
 
     // How many it can hold.
     pub fn places(&self) -> usize
-        ensures { result ≡ places self.now }
+        ensures value { result ≡ self.now.places }
+        ensures within { length self.now.held ≤ result }
     {
         self.room.len()
     }
 
     pub fn clear(&mut self)
-        ensures held { stacked self.new ≡ [] }
-        ensures places { places self.new ≡ places self.old }
+        ensures { self.new ≡ pile self.old.places [] }
     {
         self.len = 0;
     }
 
     // Refused where all places are taken.
     pub fn push(&mut self, x: T) -> Result<(), Refusal>
-        ensures held { (stacked self.new, result) ≡ pushed (places self.old) x (stacked self.old) }
-        ensures places { places self.new ≡ places self.old }
+        ensures { (self.new, result) ≡ pushed x self.old }
     {
-        if self.len >= self.places() {
+        if self.len == self.places() {
             return Err(Refusal::ListShort);
         }
         self.room[self.len] = x;
@@ -43,30 +41,16 @@ impl<'a, T: Copy> Stack<'a, T> {
 
     // Takes the last that came.
     pub fn pop(&mut self) -> Option<T>
-        ensures held { (stacked self.new, result) ≡ popped (stacked self.old) }
-        ensures places { places self.new ≡ places self.old }
+        ensures { (self.new, result) ≡ popped self.old }
     {
-        if self.len == 0 {
-            return None;
-        }
-        self.len -= 1;
+        self.len = self.len.checked_sub(1)?;
         Some(self.room[self.len])
     }
 
     // The last that came, which stays.
     pub fn top(&self) -> Option<T>
-        ensures { result ≡ first (stacked self.now) }
+        ensures { result ≡ first self.now.held }
     {
-        last(&self.room[0..self.len])
+        self.room[..self.len].last().copied()
     }
-}
-
-fn last<T: Copy>(all: &[T]) -> Option<T>
-    ensures { result ≡ first (reverse all.now) }
-{
-    let len = all.len();
-    if len == 0 {
-        return None;
-    }
-    Some(all[len - 1])
 }
