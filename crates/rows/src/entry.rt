@@ -1,6 +1,5 @@
 // What a row's entry shows of its object.
 ghost use Rattle.std.specs.Prelude.{◌≡◌};
-ghost use Rattle.vocab.specs.Meaning.{contents_of};
 ghost use Rattle.tree.specs.Questions.{directory, contents, kind_of, new_body, bare};
 ghost use Rattle.tree.specs.Meaning.{status_of};
 ghost use Rattle.rows.specs.Rows.{body_of, object_of};
@@ -34,14 +33,11 @@ impl Entry {
     pub fn is_directory(&self) -> bool
         ensures { result ≡ directory (object_of self.now) }
     {
-        match self.body {
-            Body::Directory => true,
-            Body::File(_) => false,
-        }
+        self.kind() == Kind::Directory
     }
 
     pub fn held(&self) -> Contents
-        ensures { contents_of result ≡ contents (object_of self.now) }
+        ensures { result ≡ contents (object_of self.now) }
     {
         match self.body {
             Body::Directory => Contents::empty(),

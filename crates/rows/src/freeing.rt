@@ -7,7 +7,5 @@ use crate::row::Row;
 pub fn free_all(rows: &mut [Row])
     ensures { objects_in rows.new ≡ [] }
 {
-    for row in rows.iter_mut() {
-        *row = Row::Free;
-    }
+    rows.fill(None);
 }

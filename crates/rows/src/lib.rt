@@ -3,5 +3,6 @@
 
 pub mod entry;
 pub mod freeing;
+pub mod head;
 pub mod row;
 pub mod search;

@@ -4,6 +4,7 @@ use vocab::name::Name;
 use vocab::number::Number;
 use vocab::stamp::Stamp;
 
+// Not an Option of contents: a directory is a kind of object, and not a file that lacks something.
 #[derive(Clone, Copy)]
 pub enum Body {
     Directory,
@@ -19,8 +20,5 @@ pub struct Entry {
     pub body: Body,
 }
 
-#[derive(Clone, Copy)]
-pub enum Row {
-    Free,
-    Used(Entry),
-}
+// A row is free, or holds an entry.
+pub type Row = Option<Entry>;

@@ -25,11 +25,6 @@ impl Table {
     pub fn close(self) -> Vec<Row>
         ensures { result.items ≡ rows_of self }
     {
-        let Table {
-            rows,
-            count: _,
-            next: _,
-        } = self;
-        rows
+        self.rows
     }
 }

@@ -1,34 +1,28 @@
-use Rattle.std.proofs.Common.{sym, ap, ◌∙◌}
-use Rattle.rows.specs.declared.row.Row.TheVariants.{Free}
-use Rattle.rows.specs.Rows.{on}
+use Rattle.std.proofs.Common.{None, sym, ap, ◌∙◌, below_more, arith}
 use Rattle.std.proofs.lemmas.List.{get_or_default}
-use Rattle.rows.proofs.Searching.{nowhere_more, nowhere_all, first_here}
+use Rattle.asking.specs.Tests.{passing}
+use Rattle.rows.specs.Rows.{on}
+use Rattle.rows.proofs.Searching.{found_by, nowhere_by}
 use Rattle.rows.proofs.search.first.Goals as goal
-use Rattle.rows.proofs.search.first.Goals.{in-Used+else-test, in-Free}
+use Rattle.rows.proofs.search.first.Goals.{in-Some+else-test, in_default}
 
-pub loop-i-preserved : goal.loop-i-preserved
-loop-i-preserved g c =
-    let p = g.T.Test.passes c.args.test.now in
-    let i = c.loop-i.i in
-    let more = nowhere_more (on p) c.args.rows.now i c.index-rows-i.result c.loop-i-test.true c.loop-i.invariant in
-    let read = ap (on p) (sym c.index-rows-i.is) in
-    elim c.match-row.branch [
-      | in-Used+else-test w ↦ more (read ∙ ap (on p) w.in-Used.is ∙ sym w.test.ensures ∙ w.if-test.false)
-      | in-Free w ↦ more (read ∙ ap (on p) w.in-Free.is)
-    ]
+pub loop-index-init : goal.loop-index-init
+loop-index-init g c = λ k h. absurd (omega arith)
 
 pub returns-then-test : goal.returns-then-test
 returns-then-test g c =
-    let p = g.T.Test.passes c.args.test.now in
-    let rows = c.args.rows.now in
-    let i = c.loop-i.i in
-    let r = c.index-rows-i.result in
-    let row = sym c.index-rows-i.is ∙ c.in-Used.is in
-    record {
-      first = first_here (on p) rows i r c.loop-i-test.true c.loop-i.invariant (ap (on p) row ∙ sym c.if-test.ensures);
-      row = get_or_default rows i Free r c.loop-i-test.true ∙ row;
-      within = c.loop-i-test.true;
-    }
+    let row = get_or_default c.args.rows.now c.loop-index.index None c.index-rows-index.result c.loop-index-test.true ∙ sym c.index-rows-index.is ∙ c.in-Some.is in
+    found_by _ c.args.rows.now _ c.loop-index-test.true row (sym c.if-test.ensures) c.loop-index.invariant
+
+pub loop-index-preserved : goal.loop-index-preserved
+loop-index-preserved g c =
+    let q = passing (g.T.Test.passes c.args.test.now) in
+    let read = ap (on q) (get_or_default c.args.rows.now c.loop-index.index None c.index-rows-index.result c.loop-index-test.true ∙ sym c.index-rows-index.is) in
+    below_more _ _ c.loop-index.invariant
+    (read ∙ elim c.match-row.branch [
+      | in-Some+else-test w ↦ ap (on q) w.in-Some.is ∙ sym w.test.ensures ∙ w.if-test.false
+      | in_default w ↦ ap (on q) w.in_default.is
+    ])
 
 pub returns : goal.returns
-returns g c = nowhere_all (on (g.T.Test.passes c.args.test.now)) c.args.rows.now c.loop-i.i c.loop-i-test.false c.loop-i.invariant
+returns g c = nowhere_by _ c.args.rows.now (λ k h. c.loop-index.invariant k (omega arith))

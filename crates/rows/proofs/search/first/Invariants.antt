@@ -1,6 +1,7 @@
-use Rattle.std.proofs.Common.{take}
-use Rattle.rows.specs.Rows.{on, Nowhere}
+use Rattle.asking.specs.Tests.{passing}
+use Rattle.rows.specs.Rows.{on}
+use Rattle.rows.proofs.Searching.{FailsBelow}
 use Rattle.rows.proofs.search.first.Given as goal
 
-abbrev pub invariant-loop-i : goal.invariant-loop-i
-invariant-loop-i g l = Nowhere (on (g.T.Test.passes l.test)) (take l.i l.rows)
+abbrev pub invariant-loop-index : goal.invariant-loop-index
+invariant-loop-index g l = FailsBelow (on (passing (g.T.Test.passes l.test))) l.rows l.index
