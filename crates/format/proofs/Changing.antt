@@ -2,6 +2,7 @@
 --     Kept bs n d f u     bs stand for the lawful tree u, and begin with its image if they are enough
 use Rattle.std.proofs.Common.{◌≡◌, ℕ, ◌+◌, ◌-◌, ◌*◌, ◌<◌, ◌≤◌, ltb, List, ◌∷◌, ◌++◌, length, get_or, take, drop, set, Some, sym, refl, ap, ◌∙◌, subst, ⊎_elim, add-one, arith, lit≤, length-append, length-drop, length-set, length-take-le}
 use Rattle.std.proofs.lemmas.Bool.{cases_lt, cond-true, cond-false, lt-ltb, le-ltb}
+use Rattle.std.proofs.lemmas.Option.{same_Some}
 use Rattle.vocab.specs.declared.kind.Kind.{Kind}
 use Rattle.vocab.specs.declared.kind.Kind.TheVariants.{Directory, File}
 use Rattle.tree.specs.Changes.{cleared, with_next}
@@ -13,7 +14,8 @@ use Rattle.tree.proofs.Keeping.{bare_lawful, cleared_lawful}
 use Rattle.format.specs.Entries.{entry_bytes}
 use Rattle.format.specs.Fields.{closed, le16, le32, opened, written}
 use Rattle.format.specs.Images.{Begins, Sections, section, fronted, section_at, sections_in, sections_of, size, tree_of, tree_in, with_section}
-use Rattle.format.specs.Layout.{capacity_in, count_at, entry_size, least_size, lowered, raised}
+use Rattle.format.specs.Layout.{capacity_in, entry_size}
+use Rattle.format.specs.declared.layout.TheConstants.{COUNT, LEAST_SIZE}
 use Rattle.format.proofs.Cutting.{counts-cleared, entry_inserted, entry-removed, entry-written-twice, next-written, opened-bare}
 use Rattle.format.proofs.Holding.{begins_here, count_directories, count_files, enough, room_for}
 use Rattle.format.proofs.Meaning.{section_ascends, section_at_own, sections_changed, sections_held, sections_inserted, sections_removed, tree_back}
@@ -22,7 +24,7 @@ use Rattle.format.proofs.Placing.{at_place as place_at, change_at, insert_at, wi
 pub record Kept (bs : List ℕ) (n d f : ℕ) (u : Tree) : Type 0 where
   pub tree : tree_in bs n d f ≡ u
   pub lawful : Lawful (tree_in bs n d f)
-  pub held : least_size ≤ length bs → Begins bs (sections_of (tree_in bs n d f))
+  pub held : LEAST_SIZE ≤ length bs → Begins bs (sections_of (tree_in bs n d f))
 
 pub kept
     : (u : Tree) → Lawful u → (bs : List ℕ) (n d f : ℕ) → capacity_in (length bs) ≡ u.capacity → Begins bs (sections_of u)
@@ -33,6 +35,16 @@ kept u lawful bs n d f room begins next ds fs =
     record { tree = is; lawful = subst Lawful (sym is) lawful; held = λ _. subst (λ t. Begins bs (sections_of t)) (sym is) begins }
 
 -- ---- counts
+
+-- of directories and files, with one more of a kind
+abbrev pub raised : Kind → ℕ → ℕ → ℕ × ℕ
+raised Directory d f = (d + 1, f)
+raised File d f = (d, f + 1)
+
+-- with one less
+abbrev pub lowered : Kind → ℕ → ℕ → ℕ × ℕ
+lowered Directory d f = (d - 1, f)
+lowered File d f = (d, f - 1)
 
 -- a section is replaced by a list that is one longer, one shorter, or as long
 longer : (k : Kind) (s : Sections) (l : List Object) → length l ≡ length (section k s) + 1
@@ -56,7 +68,7 @@ section_next File s l = refl
 
 -- ---- a change of bytes that hold a lawful tree
 
-module _ (bs : List ℕ) (n d f : ℕ) (lawful : Lawful (tree_in bs n d f)) (held : least_size ≤ length bs → Begins bs (sections_of (tree_in bs n d f))) (cs : List ℕ) (long : length cs ≡ length bs) where
+module _ (bs : List ℕ) (n d f : ℕ) (lawful : Lawful (tree_in bs n d f)) (held : LEAST_SIZE ≤ length bs → Begins bs (sections_of (tree_in bs n d f))) (cs : List ℕ) (long : length cs ≡ length bs) where
   abbrev t : Tree
   t = tree_in bs n d f
 
@@ -125,7 +137,7 @@ module _ (bs : List ℕ) (n d f : ℕ) (lawful : Lawful (tree_in bs n d f)) (hel
           → Kept cs n d f (with_objects t (change x g t.objects))
       rewritten g still law q r field more fq fr entry is =
           let l = section k s in
-          let own : get_or l i none ≡ o = some_one (sym (at_place_of) ∙ section_at_own t lawful k x o here kind) in
+          let own : get_or l i none ≡ o = same_Some _ _ (sym (at_place_of) ∙ section_at_own t lawful k x o here kind) in
           let rest = set l i (g o) in
           let new : change x g l ≡ rest =
           ap (λ y. change y g l) (sym number) ∙ change_at none g 2 l (section_ascends t lawful k) i within ∙ ap (λ p. set l i (g p)) own in
@@ -143,16 +155,13 @@ module _ (bs : List ℕ) (n d f : ℕ) (lawful : Lawful (tree_in bs n d f)) (hel
           at_place_of : at x (section k s) ≡ Some (get_or (section k s) i none)
           at_place_of = ap (λ y. at y (section k s)) (sym number) ∙ place_at none 2 (section k s) (section_ascends t lawful k) i within
 
-          some_one : {p q : Object} → Some p ≡ Some q → p ≡ q
-          some_one e = cc
-
   -- ---- fields in front of the entries
 
-  fronted_small : (p : ℕ) (field : List ℕ) → cs ≡ fronted bs p field → length bs < least_size → bs ≡ cs
-  fronted_small p field is h = sym (is ∙ cond-true (ltb (length bs) least_size) _ _ (lt-ltb (length bs) least_size h))
+  fronted_small : (p : ℕ) (field : List ℕ) → cs ≡ fronted bs p field → length bs < LEAST_SIZE → bs ≡ cs
+  fronted_small p field is h = sym (is ∙ cond-true (ltb (length bs) LEAST_SIZE) _ _ (lt-ltb (length bs) LEAST_SIZE h))
 
-  fronted_large : (p : ℕ) (field : List ℕ) → cs ≡ fronted bs p field → least_size ≤ length bs → written bs p field ≡ cs
-  fronted_large p field is h = sym (is ∙ cond-false (ltb (length bs) least_size) _ _ (le-ltb (length bs) least_size h))
+  fronted_large : (p : ℕ) (field : List ℕ) → cs ≡ fronted bs p field → LEAST_SIZE ≤ length bs → written bs p field ≡ cs
+  fronted_large p field is h = sym (is ∙ cond-false (ltb (length bs) LEAST_SIZE) _ _ (le-ltb (length bs) LEAST_SIZE h))
 
   pub renumbered : (m : ℕ) → Lawful (with_next t m) → cs ≡ fronted bs 0 (le32 m) → Kept cs m d f (with_next t m)
   renumbered m law is =
@@ -162,31 +171,31 @@ module _ (bs : List ℕ) (n d f : ℕ) (lawful : Lawful (tree_in bs n d f)) (hel
       kept (with_next t m) law cs m d f room
       (subst (λ y. Begins y (sections_of (with_next t m))) (fronted_large 0 (le32 m) is h) (next-written bs s m (held h)))
       refl (sym (count_directories bs n d f)) (sym (count_files bs n d f)))
-      (cases_lt (length bs) least_size)
+      (cases_lt (length bs) LEAST_SIZE)
 
-  pub emptied : cs ≡ fronted bs count_at (le16 0 ++ le16 0) → Kept cs n 0 0 (cleared t)
+  pub emptied : cs ≡ fronted bs COUNT (le16 0 ++ le16 0) → Kept cs n 0 0 (cleared t)
   emptied is =
       ⊎_elim
-      (λ h. subst (λ y. Kept y n 0 0 (cleared t)) (fronted_small count_at (le16 0 ++ le16 0) is h) (record { tree = refl; lawful = cleared_lawful t lawful; held = λ l. absurd (omega arith) }))
+      (λ h. subst (λ y. Kept y n 0 0 (cleared t)) (fronted_small COUNT (le16 0 ++ le16 0) is h) (record { tree = refl; lawful = cleared_lawful t lawful; held = λ l. absurd (omega arith) }))
       (λ h.
       kept (cleared t) (cleared_lawful t lawful) cs n 0 0 room
-      (subst (λ y. Begins y (sections_of (cleared t))) (fronted_large count_at (le16 0 ++ le16 0) is h) (counts-cleared bs s (held h)))
+      (subst (λ y. Begins y (sections_of (cleared t))) (fronted_large COUNT (le16 0 ++ le16 0) is h) (counts-cleared bs s (held h)))
       refl refl refl)
-      (cases_lt (length bs) least_size)
+      (cases_lt (length bs) LEAST_SIZE)
 
 -- whatever the bytes were
 pub begun
     : (bs cs : List ℕ) → length cs ≡ length bs → cs ≡ fronted bs 0 (le32 2 ++ (le16 0 ++ le16 0)) → Kept cs 2 0 0 (empty (capacity_in (length bs)))
 begun bs cs long is =
     let law = bare_lawful (capacity_in (length bs)) 2 (omega arith) (lit≤ tt) in
-    let test = ltb (length bs) least_size in
+    let test = ltb (length bs) LEAST_SIZE in
     ⊎_elim
     (λ h.
-    let same : bs ≡ cs = sym (is ∙ cond-true test _ _ (lt-ltb (length bs) least_size h)) in
+    let same : bs ≡ cs = sym (is ∙ cond-true test _ _ (lt-ltb (length bs) LEAST_SIZE h)) in
     subst (λ y. Kept y 2 0 0 (empty (capacity_in (length bs)))) same (record { tree = refl; lawful = law; held = λ l. absurd (omega arith) }))
     (λ h.
-    let same : written bs 0 (le32 2 ++ (le16 0 ++ le16 0)) ≡ cs = sym (is ∙ cond-false test _ _ (le-ltb (length bs) least_size h)) in
+    let same : written bs 0 (le32 2 ++ (le16 0 ++ le16 0)) ≡ cs = sym (is ∙ cond-false test _ _ (le-ltb (length bs) LEAST_SIZE h)) in
     kept (empty (capacity_in (length bs))) law cs 2 0 0 (ap capacity_in long)
     (subst (λ y. Begins y (sections_of (empty (capacity_in (length bs))))) same (opened-bare bs 2))
     refl refl refl)
-    (cases_lt (length bs) least_size)
+    (cases_lt (length bs) LEAST_SIZE)

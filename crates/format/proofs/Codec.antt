@@ -13,7 +13,8 @@ use Rattle.tree.specs.Questions.{contents, kind_of}
 use Rattle.tree.specs.Trees.{Body, Object, dir, file}
 use Rattle.format.specs.Entries.{contents_field, directory_in, entries, entry_bytes, entry_in, file_bytes, file_in, head_bytes, name_field, stamp_field}
 use Rattle.format.specs.Fields.{half, le16, le32, word}
-use Rattle.format.specs.Layout.{contents_at, entry_size, head_size}
+use Rattle.format.specs.Layout.{entry_size}
+use Rattle.format.specs.declared.layout.TheConstants.{CONTENTS, HEAD_SIZE}
 use Rattle.format.proofs.Lengths.{length_entry, length_head, length_le16}
 
 -- what an entry can hold
@@ -66,28 +67,28 @@ take_padded n bs rest h =
 -- ---- a file's contents in its entry
 
 module _ (o : Object) (rest : List ℕ) where
-  pub drop_to_length : drop head_size (file_bytes o ++ rest) ≡ contents_field (contents o) ++ rest
+  pub drop_to_length : drop HEAD_SIZE (file_bytes o ++ rest) ≡ contents_field (contents o) ++ rest
   unfolding file_bytes
   drop_to_length =
-      ap (drop head_size) (append_assoc (head_bytes o) (contents_field (contents o)) rest)
-      ∙ drop_at (head_bytes o) (contents_field (contents o) ++ rest) head_size (length_head o)
+      ap (drop HEAD_SIZE) (append_assoc (head_bytes o) (contents_field (contents o)) rest)
+      ∙ drop_at (head_bytes o) (contents_field (contents o) ++ rest) HEAD_SIZE (length_head o)
 
-  pub drop_to_contents : drop contents_at (file_bytes o ++ rest) ≡ padded longest_contents (contents o) ++ rest
+  pub drop_to_contents : drop CONTENTS (file_bytes o ++ rest) ≡ padded longest_contents (contents o) ++ rest
   unfolding contents_field
   drop_to_contents =
-      sym (drop-drop 2 head_size (file_bytes o ++ rest))
+      sym (drop-drop 2 HEAD_SIZE (file_bytes o ++ rest))
       ∙ ap (drop 2) (drop_to_length ∙ append_assoc (le16 (length (contents o))) (padded longest_contents (contents o)) rest)
       ∙ drop_at (le16 (length (contents o))) (padded longest_contents (contents o) ++ rest) 2 (length_le16 (length (contents o)))
 
   module _ (fit : Fit o) where
-    pub length_back : half (file_bytes o ++ rest) head_size ≡ length (contents o)
+    pub length_back : half (file_bytes o ++ rest) HEAD_SIZE ≡ length (contents o)
     unfolding contents_field
     length_back =
-        half_drop (file_bytes o ++ rest) head_size
+        half_drop (file_bytes o ++ rest) HEAD_SIZE
         ∙ ap (λ l. half l 0) (drop_to_length ∙ append_assoc (le16 (length (contents o))) (padded longest_contents (contents o)) rest)
         ∙ half_le16 (length (contents o)) (padded longest_contents (contents o) ++ rest) (omega (arith, fit.contents))
 
-    pub contents_back : take (half (file_bytes o ++ rest) head_size) (drop contents_at (file_bytes o ++ rest)) ≡ contents o
+    pub contents_back : take (half (file_bytes o ++ rest) HEAD_SIZE) (drop CONTENTS (file_bytes o ++ rest)) ≡ contents o
     contents_back = (λ i. take (length_back i) (drop_to_contents i)) ∙ take_padded longest_contents (contents o) rest fit.contents
 
 -- ---- entries

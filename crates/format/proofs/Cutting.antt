@@ -2,6 +2,7 @@
 --     before k s     the bytes of the image before the count of the section of kind k
 --     behind k s     those behind its entries
 use Rattle.std.proofs.Common.{◌≡◌, ℕ, ◌+◌, ◌-◌, ◌*◌, ◌<◌, ◌≤◌, List, [], ◌∷◌, ◌++◌, length, get_or, take, drop, set, sym, refl, ap, ◌∙◌, append_assoc, append-nil, add-one, arith, length-append, length-drop, length-set}
+use Rattle.std.proofs.lemmas.Grind.{flat_map-append}
 use Rattle.std.proofs.lemmas.List.{drop_at, drop_more, length-take-le, set_split}
 use Rattle.std.specs.List.{flat_map}
 use Rattle.vocab.specs.declared.kind.Kind.{Kind}
@@ -12,8 +13,9 @@ use Rattle.tree.specs.Trees.{Object, file}
 use Rattle.format.specs.Entries.{contents_field, entry_bytes, file_bytes, head_bytes, name_field, stamp_field}
 use Rattle.format.specs.Fields.{closed, le16, le32, opened, written}
 use Rattle.format.specs.Images.{Begins, Sections, encoded, section, section_at, size, with_section}
-use Rattle.format.specs.Layout.{author_at, count_at, entry_size, file_size, head_size, name_length_at, parent_at}
-use Rattle.format.proofs.Lengths.{joined_append, joined_cut, length_contents, length_encoded, length_entry, length_file, length_head}
+use Rattle.format.specs.Layout.{entry_size}
+use Rattle.format.specs.declared.layout.TheConstants.{AUTHOR, COUNT, FILE_SIZE, HEAD_SIZE, NAME_LENGTH, PARENT}
+use Rattle.format.proofs.Lengths.{joined_cut, length_contents, length_encoded, length_entry, length_file, length_head}
 use Rattle.format.proofs.Lengths.{length_joined, length_joined_take, length_le16, length_le32, length_name, length_stamp}
 use Rattle.format.proofs.Writing.{Closed-at, length_written, written_at, written_behind, written_front, written-opened, written-within}
 
@@ -34,10 +36,10 @@ cut File s = simp (append_assoc, append-nil)
 pub length_before : (k : Kind) (s : Sections) → length (before k s) + 2 ≡ section_at k s
 length_before Directory s = omega (arith, length_le32 s.next)
 length_before File s =
-    simp (length-append, length_le16, length_le32) (omega (arith, length_joined head_bytes head_size length_head s.directories))
+    simp (length-append, length_le16, length_le32) (omega (arith, length_joined head_bytes HEAD_SIZE length_head s.directories))
 
 pub length_behind : (k : Kind) (s : Sections) → section_at k s + entry_size k * length (section k s) + length (behind k s) ≡ size s
-length_behind Directory s = simp (length-append, length_le16) (omega (arith, length_joined file_bytes file_size length_file s.files))
+length_behind Directory s = simp (length-append, length_le16) (omega (arith, length_joined file_bytes FILE_SIZE length_file s.files))
 length_behind File s = omega arith
 
 pub begins : (b : List ℕ) (s : Sections) (z : List ℕ) → b ≡ encoded s ++ z → Begins b s
@@ -115,7 +117,7 @@ module _ (k : Kind) (s : Sections) where
           ap (λ x. written (opened x at end w) at (entry_bytes k o)) (onward_so l)
           ∙ written-opened upto onward free (entry_bytes k o) at end w (length_upto l) (omega (arith, length_onward l)) (length_entry k o)
           (simp length-drop (omega arith))
-          ∙ simp (joined_append, append_assoc) in
+          ∙ simp (flat_map-append, append_assoc) in
           counted _ (length xs) n (take i xs ++ (o ∷ drop i xs)) (drop w free) put
           (simp length-append (omega (arith, length-take-le i xs l, length-drop i xs)))
 
@@ -139,7 +141,7 @@ module _ (k : Kind) (s : Sections) where
             let same = length-set xs i o in
             let new : set xs i o ≡ take i xs ++ (o ∷ drop (i + 1) xs) = set_split xs i o l ∙ ap (λ n. take i xs ++ (o ∷ drop n xs)) (sym (add-one i)) in
             let is : laid (length (set xs i o)) (set xs i o) free ≡ upto ++ (entry_bytes k o ++ (past ++ free)) =
-            (λ j. laid (same j) (new j) free) ∙ simp (joined_append, append_assoc) in
+            (λ j. laid (same j) (new j) free) ∙ simp (flat_map-append, append_assoc) in
             laid_begins c (set xs i o) free (e ∙ sym is)
 
         in_entry
@@ -182,7 +184,7 @@ module _ (k : Kind) (s : Sections) where
             omega (arith, length_onward (omega arith), ap length (from_entry root) ∙ length-append e past) in
             let shut : closed b at end w ≡ laid (length xs) (take i xs ++ drop (i + 1) xs) (e ++ free) =
             ap (λ x. closed x at end w) (entry_so root) ∙ Closed-at upto e past free at end w (length_upto (omega arith)) le tail
-            ∙ simp (joined_append, append_assoc) in
+            ∙ simp (flat_map-append, append_assoc) in
             counted _ (length xs) n (take i xs ++ drop (i + 1) xs) (e ++ free) shut
             (simp length-append (omega (arith, length-take-le i xs (omega arith), length-drop (i + 1) xs)))
 
@@ -190,7 +192,7 @@ module _ (k : Kind) (s : Sections) where
 
 -- what is written into the head of an entry
 headed
-    : (k : Kind) (o p : Object) (q : ℕ) (field : List ℕ) → q + length field ≤ head_size → contents p ≡ contents o
+    : (k : Kind) (o p : Object) (q : ℕ) (field : List ℕ) → q + length field ≤ HEAD_SIZE → contents p ≡ contents o
     → written (head_bytes o) q field ≡ head_bytes p
     → written (entry_bytes k o) q field ≡ entry_bytes k p
 unfolding file_bytes
@@ -201,50 +203,50 @@ headed File o p q field within same is =
 
 pub parent-written
     : (k : Kind) (o : Object) (q : ℕ)
-    → written (entry_bytes k o) parent_at (le32 q)
+    → written (entry_bytes k o) PARENT (le32 q)
     ≡ entry_bytes k (record { number = o.number; parent = q; name = o.name; stamp = o.stamp; body = o.body })
 unfolding head_bytes
 parent-written k o q =
-    headed k o _ parent_at (le32 q) (omega (arith, length_le32 q)) refl
-    (written_at (le32 o.number) (le32 o.parent) (stamp_field o.stamp ++ name_field o.name) (le32 q) parent_at (length_le32 o.number)
+    headed k o _ PARENT (le32 q) (omega (arith, length_le32 q)) refl
+    (written_at (le32 o.number) (le32 o.parent) (stamp_field o.stamp ++ name_field o.name) (le32 q) PARENT (length_le32 o.number)
     (length_le32 q ∙ sym (length_le32 o.parent)))
 
 pub stamp-written
     : (k : Kind) (o : Object) (t : Stamp)
-    → written (entry_bytes k o) author_at (stamp_field t)
+    → written (entry_bytes k o) AUTHOR (stamp_field t)
     ≡ entry_bytes k (record { number = o.number; parent = o.parent; name = o.name; stamp = t; body = o.body })
 unfolding head_bytes
 stamp-written k o t =
     let x = le32 o.number ++ le32 o.parent in
-    let lx : length x ≡ author_at = simp (length-append, length_le32) in
-    headed k o _ author_at (stamp_field t) (omega (arith, length_stamp t)) refl
-    (ap (λ l. written l author_at (stamp_field t)) (sym (append_assoc (le32 o.number) (le32 o.parent) _))
-    ∙ written_at x (stamp_field o.stamp) (name_field o.name) (stamp_field t) author_at lx (length_stamp t ∙ sym (length_stamp o.stamp))
+    let lx : length x ≡ AUTHOR = simp (length-append, length_le32) in
+    headed k o _ AUTHOR (stamp_field t) (omega (arith, length_stamp t)) refl
+    (ap (λ l. written l AUTHOR (stamp_field t)) (sym (append_assoc (le32 o.number) (le32 o.parent) _))
+    ∙ written_at x (stamp_field o.stamp) (name_field o.name) (stamp_field t) AUTHOR lx (length_stamp t ∙ sym (length_stamp o.stamp))
     ∙ append_assoc (le32 o.number) (le32 o.parent) (stamp_field t ++ name_field o.name))
 
 pub name-written
     : (k : Kind) (o : Object) (m : List ℕ)
-    → written (entry_bytes k o) name_length_at (name_field m)
+    → written (entry_bytes k o) NAME_LENGTH (name_field m)
     ≡ entry_bytes k (record { number = o.number; parent = o.parent; name = m; stamp = o.stamp; body = o.body })
 unfolding head_bytes
 name-written k o m =
     let x = le32 o.number ++ (le32 o.parent ++ stamp_field o.stamp) in
-    let lx : length x ≡ name_length_at = simp (length-append, length_le32, length_stamp) in
+    let lx : length x ≡ NAME_LENGTH = simp (length-append, length_le32, length_stamp) in
     let is : head_bytes o ≡ x ++ (name_field o.name ++ []) = simp (append_assoc, append-nil) in
-    headed k o _ name_length_at (name_field m) (omega (arith, length_name m)) refl
-    (ap (λ l. written l name_length_at (name_field m)) is
-    ∙ written_at x (name_field o.name) [] (name_field m) name_length_at lx (length_name m ∙ sym (length_name o.name))
+    headed k o _ NAME_LENGTH (name_field m) (omega (arith, length_name m)) refl
+    (ap (λ l. written l NAME_LENGTH (name_field m)) is
+    ∙ written_at x (name_field o.name) [] (name_field m) NAME_LENGTH lx (length_name m ∙ sym (length_name o.name))
     ∙ simp (append_assoc, append-nil))
 
 pub contents-written
     : (o : Object) (c : List ℕ)
-    → written (entry_bytes File o) head_size (contents_field c)
+    → written (entry_bytes File o) HEAD_SIZE (contents_field c)
     ≡ entry_bytes File (record { number = o.number; parent = o.parent; name = o.name; stamp = o.stamp; body = file c })
 unfolding file_bytes head_bytes
 contents-written o c =
     let is : file_bytes o ≡ head_bytes o ++ (contents_field (contents o) ++ []) = simp append-nil in
-    ap (λ l. written l head_size (contents_field c)) is
-    ∙ written_at (head_bytes o) (contents_field (contents o)) [] (contents_field c) head_size (length_head o)
+    ap (λ l. written l HEAD_SIZE (contents_field c)) is
+    ∙ written_at (head_bytes o) (contents_field (contents o)) [] (contents_field c) HEAD_SIZE (length_head o)
     (length_contents c ∙ sym (length_contents (contents o)))
     ∙ simp append-nil
 
@@ -262,13 +264,13 @@ next-written b s n h =
 
 pub counts-cleared
     : (b : List ℕ) (s : Sections) → Begins b s
-    → Begins (written b count_at (le16 0 ++ le16 0)) (record { next = s.next; directories = []; files = [] })
+    → Begins (written b COUNT (le16 0 ++ le16 0)) (record { next = s.next; directories = []; files = [] })
 counts-cleared b s h =
     let field = le16 0 ++ le16 0 in
     let rest = (le16 (length s.directories) ++ (flat_map head_bytes s.directories ++ behind Directory s)) ++ drop (size s) b in
     begins _ (record { next = s.next; directories = []; files = [] }) (drop (0 + length field) rest)
-    (ap (λ x. written x count_at field) (h ∙ simp append_assoc)
-    ∙ written_behind (le32 s.next) rest field count_at 0 (length_le32 s.next) (omega arith)
+    (ap (λ x. written x COUNT field) (h ∙ simp append_assoc)
+    ∙ written_behind (le32 s.next) rest field COUNT 0 (length_le32 s.next) (omega arith)
     ∙ simp (append_assoc, append-nil))
 
 pub opened-bare

@@ -1,24 +1,25 @@
 -- Bytes that hold a lawful tree: its counts, its sections, and the room for more. Assumes nothing.
-use Rattle.std.proofs.Common.{◌≡◌, ℕ, zero, suc, ◌+◌, ◌-◌, ◌*◌, ◌/◌, ◌<◌, ◌≤◌, min, Bool, true, false, not, ltb, List, [], ◌∷◌, length, get_or, drop, sym, refl, ap, ◌∙◌, subst, ⊎_elim, arith, lit≤, length-append}
+use Rattle.std.proofs.Common.{◌≡◌, ℕ, zero, suc, ◌+◌, ◌-◌, ◌*◌, ◌/◌, ◌<◌, ◌≤◌, min, Bool, true, false, ltb, List, [], ◌∷◌, length, get_or, drop, sym, refl, ap, ◌∙◌, subst, ⊎_elim, arith, lit≤, length-append}
 use Rattle.std.specs.List.{AllByRecursion}
 use Rattle.std.proofs.lemmas.Nat.{div-add-mod'}
 use Rattle.std.proofs.ByRecursion.{All-get_or, All-weaker}
-use Rattle.std.proofs.lemmas.Bool.{cases_Bool, cases_lt, cond-true, cond-false, lt-ltb, le-ltb}
+use Rattle.std.proofs.lemmas.Bool.{cases_lt, cond-true, cond-false, lt-ltb, le-ltb}
 use Rattle.vocab.specs.declared.kind.Kind.{Kind}
 use Rattle.vocab.specs.declared.kind.Kind.TheVariants.{Directory, File}
 use Rattle.tree.specs.Law.{Lawful}
 use Rattle.tree.specs.Questions.{contents, directory, kind_of, regular}
 use Rattle.tree.specs.Trees.{Object, higher, insert, keep, lower}
-use Rattle.tree.proofs.Changed.{kinds}
 use Rattle.tree.proofs.Inserting.{length_insert}
 use Rattle.tree.proofs.Lists.{keep_append, keep_keep}
 use Rattle.format.specs.Entries.{directory_in, entries, file_in}
 use Rattle.format.specs.Images.{Begins, section, section_at, sections_in, sections_of, size, together, tree_in}
-use Rattle.format.specs.Layout.{bare_size, capacity_in, directories_at, entry_size, file_size, files_at, head_size, least_size, most_objects}
+use Rattle.format.specs.Layout.{capacity_in, entry_size, files_at}
+use Rattle.format.specs.declared.layout.TheConstants.{BARE_SIZE, DIRECTORIES, FILE_SIZE, HEAD_SIZE, LEAST_SIZE}
+use Rattle.vocab.specs.Limits.{most_objects}
 use Rattle.format.specs.Reading.{Holds, Shows}
 use Rattle.format.proofs.Codec.{length_entries}
 use Rattle.format.proofs.Cutting.{entry_cut}
-use Rattle.format.proofs.Meaning.{kind_true, section_fits, sections_held}
+use Rattle.format.proofs.Meaning.{kind_true, not_directory, not_regular, section_fits, sections_held}
 use Rattle.format.proofs.Reading.{holds, shows}
 use Rattle.format.proofs.Sectioning.{keep_every, keep_no, length_sections, section_insert}
 
@@ -37,15 +38,8 @@ insert_one q o l h = ap length (section_insert q o l h) ∙ length_insert o (kee
 entries_kind : (k : Kind) (n : ℕ) (bs : List ℕ) → AllByRecursion (λ o. kind_of o ≡ k) (entries k n bs)
 unfolding directory_in file_in
 entries_kind k zero bs = tt
-entries_kind Directory (suc n) bs = (refl, entries_kind Directory n (drop head_size bs))
-entries_kind File (suc n) bs = (refl, entries_kind File n (drop file_size bs))
-
-module _ (o : Object) where
-  not_directory : kind_of o ≡ File → directory o ≡ false
-  not_directory h = let r = kind_true File o h in let k = kinds o in grind (arith, cases_Bool (directory o))
-
-  not_regular : kind_of o ≡ Directory → regular o ≡ false
-  not_regular h = kinds o ∙ ap not (kind_true Directory o h)
+entries_kind Directory (suc n) bs = (refl, entries_kind Directory n (drop HEAD_SIZE bs))
+entries_kind File (suc n) bs = (refl, entries_kind File n (drop FILE_SIZE bs))
 
 -- two lists, of directories and of files, in one
 module _ (fs : List Object) (files : AllByRecursion (λ o. kind_of o ≡ File) fs) where
@@ -60,12 +54,12 @@ module _ (fs : List Object) (files : AllByRecursion (λ o. kind_of o ≡ File) f
 module _ (bs : List ℕ) (n d f : ℕ) where
   pub count_directories : length (sections_of (tree_in bs n d f)).directories ≡ d
   count_directories =
-      directories_counted (entries File f (drop (files_at d) bs)) (entries_kind File f _) (entries Directory d (drop directories_at bs)) (entries_kind Directory d _)
+      directories_counted (entries File f (drop (files_at d) bs)) (entries_kind File f _) (entries Directory d (drop DIRECTORIES bs)) (entries_kind Directory d _)
       ∙ length_entries Directory d _
 
   pub count_files : length (sections_of (tree_in bs n d f)).files ≡ f
   count_files =
-      files_counted (entries File f (drop (files_at d) bs)) (entries_kind File f _) (entries Directory d (drop directories_at bs)) (entries_kind Directory d _)
+      files_counted (entries File f (drop (files_at d) bs)) (entries_kind File f _) (entries Directory d (drop DIRECTORIES bs)) (entries_kind Directory d _)
       ∙ length_entries File f _
 
   pub count_objects : length (tree_in bs n d f).objects ≡ d + f
@@ -73,39 +67,44 @@ module _ (bs : List ℕ) (n d f : ℕ) where
 
 -- ---- room
 
-capacity_small : (n : ℕ) → n < least_size → capacity_in n ≡ 0
-capacity_small n h = cond-true (ltb n least_size) _ _ (lt-ltb n least_size h)
+capacity_small : (n : ℕ) → n < LEAST_SIZE → capacity_in n ≡ 0
+capacity_small n h = cond-true (ltb n LEAST_SIZE) _ _ (lt-ltb n LEAST_SIZE h)
 
-capacity_large : (n : ℕ) → least_size ≤ n → capacity_in n ≡ min ((n - bare_size) / file_size) most_objects
-capacity_large n h = cond-false (ltb n least_size) _ _ (le-ltb n least_size h)
+capacity_large : (n : ℕ) → LEAST_SIZE ≤ n → capacity_in n ≡ min ((n - BARE_SIZE) / FILE_SIZE) most_objects
+capacity_large n h = cond-false (ltb n LEAST_SIZE) _ _ (le-ltb n LEAST_SIZE h)
+
+-- the same with no test
+pub capacity_plain : (n : ℕ) → min ((n - BARE_SIZE) / FILE_SIZE) most_objects ≡ capacity_in n
+capacity_plain n =
+    ⊎_elim (λ h. let few : (n - BARE_SIZE) / FILE_SIZE ≡ 0 = omega arith in omega (arith, few, capacity_small n h)) (λ h. sym (capacity_large n h)) (cases_lt n LEAST_SIZE)
 
 pub capacity_most : (n : ℕ) → capacity_in n ≤ most_objects
 capacity_most n =
-    ⊎_elim (λ h. omega (arith, capacity_small n h)) (λ h. omega (arith, capacity_large n h)) (cases_lt n least_size)
+    ⊎_elim (λ h. omega (arith, capacity_small n h)) (λ h. omega (arith, capacity_large n h)) (cases_lt n LEAST_SIZE)
 
 -- so many files and the counts fit
-pub capacity_fits : (n : ℕ) → least_size ≤ n → bare_size + file_size * capacity_in n ≤ n
-capacity_fits n h = omega (arith, capacity_large n h, div-add-mod' (n - bare_size) file_size)
+pub capacity_fits : (n : ℕ) → LEAST_SIZE ≤ n → BARE_SIZE + FILE_SIZE * capacity_in n ≤ n
+capacity_fits n h = omega (arith, capacity_large n h, div-add-mod' (n - BARE_SIZE) FILE_SIZE)
 
 -- ---- bytes that hold a lawful tree
 
-module _ (bs : List ℕ) (n d f : ℕ) (lawful : Lawful (tree_in bs n d f)) (held : least_size ≤ length bs → Begins bs (sections_of (tree_in bs n d f))) where
+module _ (bs : List ℕ) (n d f : ℕ) (lawful : Lawful (tree_in bs n d f)) (held : LEAST_SIZE ≤ length bs → Begins bs (sections_of (tree_in bs n d f))) where
   pub few : d + f ≤ capacity_in (length bs)
   few = omega (arith, lawful.room, count_objects bs n d f)
 
-  pub enough : 0 < capacity_in (length bs) → least_size ≤ length bs
-  enough h = ⊎_elim (λ l. absurd (omega (arith, capacity_small (length bs) l))) (λ l. l) (cases_lt (length bs) least_size)
+  pub enough : 0 < capacity_in (length bs) → LEAST_SIZE ≤ length bs
+  enough h = ⊎_elim (λ l. absurd (omega (arith, capacity_small (length bs) l))) (λ l. l) (cases_lt (length bs) LEAST_SIZE)
 
   pub sections_same : sections_in n d f bs ≡ sections_of (tree_in bs n d f)
-  sections_same = ⊎_elim small large (cases_lt (length bs) least_size)
+  sections_same = ⊎_elim small large (cases_lt (length bs) LEAST_SIZE)
     where
       none : (e g : ℕ) → 0 ≡ e → 0 ≡ g → sections_in n e g bs ≡ sections_of (tree_in bs n e g)
       none e g p q = subst (λ g. sections_in n e g bs ≡ sections_of (tree_in bs n e g)) q (subst (λ e. sections_in n e 0 bs ≡ sections_of (tree_in bs n e 0)) p refl)
 
-      small : length bs < least_size → sections_in n d f bs ≡ sections_of (tree_in bs n d f)
+      small : length bs < LEAST_SIZE → sections_in n d f bs ≡ sections_of (tree_in bs n d f)
       small h = let z = capacity_small (length bs) h in none d f (omega (arith, few)) (omega (arith, few))
 
-      large : least_size ≤ length bs → sections_in n d f bs ≡ sections_of (tree_in bs n d f)
+      large : LEAST_SIZE ≤ length bs → sections_in n d f bs ≡ sections_of (tree_in bs n d f)
       large h =
           let p = sym (count_directories bs n d f) in
           let q = sym (count_files bs n d f) in
@@ -114,10 +113,10 @@ module _ (bs : List ℕ) (n d f : ℕ) (lawful : Lawful (tree_in bs n d f)) (hel
   pub room_for : (k : Kind) → d + f < capacity_in (length bs) → size (sections_of (tree_in bs n d f)) + entry_size k ≤ length bs
   room_for k h =
       let fits = capacity_fits (length bs) (enough (omega arith)) in
-      let size_of : entry_size k ≤ file_size = entry_most k in
+      let size_of : entry_size k ≤ FILE_SIZE = entry_most k in
       omega (arith, count_directories bs n d f, count_files bs n d f)
     where
-      entry_most : (k : Kind) → entry_size k ≤ file_size
+      entry_most : (k : Kind) → entry_size k ≤ FILE_SIZE
       entry_most Directory = lit≤ tt
       entry_most File = lit≤ tt
 

@@ -1,6 +1,7 @@
 -- How long fields, entries and sections are. Assumes nothing.
-use Rattle.std.proofs.Common.{◌≡◌, ℕ, ◌+◌, ◌*◌, ◌<◌, ◌≤◌, List, [], ◌∷◌, ◌++◌, length, take, drop, sym, refl, ap, ◌∙◌, append_assoc, mul-zero, mul-suc, mul-add, arith, length-append, take-append-drop, length-take}
+use Rattle.std.proofs.Common.{◌≡◌, ℕ, ◌+◌, ◌*◌, ◌<◌, ◌≤◌, List, [], ◌∷◌, ◌++◌, length, take, drop, sym, refl, ap, ◌∙◌, mul-zero, mul-suc, mul-add, arith, length-append, take-append-drop, length-take}
 use lib.ListN.{length-replicate}
+use Rattle.std.proofs.lemmas.Grind.{flat_map-append}
 use Rattle.std.proofs.lemmas.Nat.{mul-le}
 use Rattle.std.proofs.lemmas.List.{drop_at, length-take-le, take_at}
 use Rattle.std.specs.List.{flat_map}
@@ -12,7 +13,8 @@ use Rattle.tree.specs.Trees.{Object}
 use Rattle.format.specs.Entries.{contents_field, entry_bytes, file_bytes, head_bytes, name_field, stamp_field}
 use Rattle.format.specs.Fields.{le16, le32}
 use Rattle.format.specs.Images.{Sections, encoded, size}
-use Rattle.format.specs.Layout.{entry_size, file_size, head_size}
+use Rattle.format.specs.Layout.{entry_size}
+use Rattle.format.specs.declared.layout.TheConstants.{FILE_SIZE, HEAD_SIZE}
 
 pub length_le16 : (n : ℕ) → length (le16 n) ≡ 2
 unfolding le16
@@ -38,11 +40,11 @@ pub length_contents : (c : List ℕ) → length (contents_field c) ≡ 258
 unfolding contents_field
 length_contents c = simp (length-append, length_le16, length_padded)
 
-pub length_head : (o : Object) → length (head_bytes o) ≡ head_size
+pub length_head : (o : Object) → length (head_bytes o) ≡ HEAD_SIZE
 unfolding head_bytes
 length_head o = simp (length-append, length_le32, length_stamp, length_name)
 
-pub length_file : (o : Object) → length (file_bytes o) ≡ file_size
+pub length_file : (o : Object) → length (file_bytes o) ≡ FILE_SIZE
 unfolding file_bytes
 length_file o = simp (length-append, length_head, length_contents)
 
@@ -57,13 +59,9 @@ module _ (f : Object → List ℕ) (w : ℕ) (fixed : (o : Object) → length (f
   length_joined [] = sym (mul-zero w)
   length_joined (o ∷ l) = length-append (f o) (flat_map f l) ∙ omega (arith, fixed o, length_joined l, mul-suc w (length l))
 
-pub joined_append : (f : Object → List ℕ) (l m : List Object) → flat_map f (l ++ m) ≡ flat_map f l ++ flat_map f m
-joined_append f [] m = refl
-joined_append f (o ∷ l) m = ap (λ z. f o ++ z) (joined_append f l m) ∙ sym (append_assoc (f o) (flat_map f l) (flat_map f m))
-
 module _ (f : Object → List ℕ) (w : ℕ) (fixed : (o : Object) → length (f o) ≡ w) (l : List Object) (i : ℕ) (within : i ≤ length l) where
   pub joined_cut : flat_map f l ≡ flat_map f (take i l) ++ flat_map f (drop i l)
-  joined_cut = ap (flat_map f) (sym (take-append-drop i l)) ∙ joined_append f (take i l) (drop i l)
+  joined_cut = ap (flat_map f) (sym (take-append-drop i l)) ∙ flat_map-append f (take i l) (drop i l)
 
   pub length_joined_take : length (flat_map f (take i l)) ≡ w * i
   length_joined_take = length_joined f w fixed (take i l) ∙ ap (λ n. w * n) (length-take-le i l within)
@@ -77,7 +75,7 @@ module _ (f : Object → List ℕ) (w : ℕ) (fixed : (o : Object) → length (f
 pub length_encoded : (s : Sections) → length (encoded s) ≡ size s
 length_encoded s =
     simp (length-append, length_le16, length_le32)
-    (omega (arith, length_joined head_bytes head_size length_head s.directories, length_joined file_bytes file_size length_file s.files))
+    (omega (arith, length_joined head_bytes HEAD_SIZE length_head s.directories, length_joined file_bytes FILE_SIZE length_file s.files))
 
 -- an entry lies within its section
 pub entry_within : (w i n : ℕ) → i < n → w * i + w ≤ w * n

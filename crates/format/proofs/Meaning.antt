@@ -3,6 +3,7 @@ use Rattle.std.proofs.Common.{◌≡◌, ℕ, suc, ◌+◌, ◌*◌, ◌^◌, �
 use Rattle.std.specs.List.{flat_map, AllByRecursion}
 use Rattle.std.proofs.lemmas.List.{drop_at, drop-drop}
 use Rattle.std.proofs.lemmas.Bool.{cases_Bool, cond-false, cond-true, eq-eqb, eqb-true, or_cases}
+use Rattle.std.proofs.lemmas.Option.{none-some}
 use Rattle.vocab.specs.declared.kind.Kind.{Kind}
 use Rattle.vocab.specs.declared.kind.Kind.TheVariants.{Directory, File}
 use Rattle.vocab.proofs.Naming.{valid_short}
@@ -15,7 +16,8 @@ use Rattle.tree.proofs.Lists.{length_keep}
 use Rattle.format.specs.Entries.{entries, file_bytes, head_bytes}
 use Rattle.format.specs.Fields.{half, le16, le32, word}
 use Rattle.format.specs.Images.{Begins, Sections, encoded, image, section, sections_in, sections_of, sections_read, size, tree_of, with_section}
-use Rattle.format.specs.Layout.{count_at, directories_at, files_at, head_size}
+use Rattle.format.specs.Layout.{files_at}
+use Rattle.format.specs.declared.layout.TheConstants.{COUNT, DIRECTORIES, HEAD_SIZE}
 use Rattle.format.specs.Theorems.{Encodable}
 use Rattle.format.proofs.Codec.{Fit, entries_back, half_drop, half_le16, word_le32}
 use Rattle.format.proofs.Lengths.{length_head, length_joined, length_le16, length_le32}
@@ -42,10 +44,10 @@ pub true_kind : (k : Kind) (o : Object) → of_kind k o ≡ true → kind_of o �
 true_kind Directory o e = let t = told o in grind (arith, cases_Bool (directory o))
 true_kind File o e = let t = told o in let r = kinds o in grind (arith, cases_Bool (directory o))
 
-not_regular : (o : Object) → kind_of o ≡ Directory → regular o ≡ false
+pub not_regular : (o : Object) → kind_of o ≡ Directory → regular o ≡ false
 not_regular o e = kinds o ∙ ap not (kind_true Directory o e)
 
-not_directory : (o : Object) → kind_of o ≡ File → directory o ≡ false
+pub not_directory : (o : Object) → kind_of o ≡ File → directory o ≡ false
 not_directory o e = let t = told o in grind (arith, cases_Bool (directory o))
 
 -- ---- what stands where in the image of sections
@@ -60,37 +62,37 @@ module _ (s : Sections) (rest : List ℕ) where
   whole : encoded s ++ rest ≡ le32 s.next ++ (le16 (length s.directories) ++ (flat_map head_bytes s.directories ++ behind_directories))
   whole = simp append_assoc
 
-  drop_next : drop count_at (encoded s ++ rest) ≡ le16 (length s.directories) ++ (flat_map head_bytes s.directories ++ behind_directories)
-  drop_next = ap (drop count_at) whole ∙ drop_at (le32 s.next) _ count_at (length_le32 s.next)
+  drop_next : drop COUNT (encoded s ++ rest) ≡ le16 (length s.directories) ++ (flat_map head_bytes s.directories ++ behind_directories)
+  drop_next = ap (drop COUNT) whole ∙ drop_at (le32 s.next) _ COUNT (length_le32 s.next)
 
-  pub drop_to_directories : drop directories_at (encoded s ++ rest) ≡ flat_map head_bytes s.directories ++ behind_directories
+  pub drop_to_directories : drop DIRECTORIES (encoded s ++ rest) ≡ flat_map head_bytes s.directories ++ behind_directories
   drop_to_directories =
-      sym (drop-drop 2 count_at (encoded s ++ rest))
+      sym (drop-drop 2 COUNT (encoded s ++ rest))
       ∙ ap (drop 2) drop_next
       ∙ drop_at (le16 (length s.directories)) _ 2 (length_le16 (length s.directories))
 
-  pub drop_to_count : drop (directories_at + head_size * length s.directories) (encoded s ++ rest) ≡ behind_directories
+  pub drop_to_count : drop (DIRECTORIES + HEAD_SIZE * length s.directories) (encoded s ++ rest) ≡ behind_directories
   drop_to_count =
-      sym (drop-drop (head_size * length s.directories) directories_at (encoded s ++ rest))
-      ∙ ap (drop (head_size * length s.directories)) drop_to_directories
-      ∙ drop_at (flat_map head_bytes s.directories) behind_directories _ (length_joined head_bytes head_size length_head s.directories)
+      sym (drop-drop (HEAD_SIZE * length s.directories) DIRECTORIES (encoded s ++ rest))
+      ∙ ap (drop (HEAD_SIZE * length s.directories)) drop_to_directories
+      ∙ drop_at (flat_map head_bytes s.directories) behind_directories _ (length_joined head_bytes HEAD_SIZE length_head s.directories)
 
   pub drop_to_files : drop (files_at (length s.directories)) (encoded s ++ rest) ≡ behind_files
   drop_to_files =
-      ap (λ n. drop n (encoded s ++ rest)) {x = files_at (length s.directories)} {y = directories_at + head_size * length s.directories + 2} (omega arith)
-      ∙ sym (drop-drop 2 (directories_at + head_size * length s.directories) (encoded s ++ rest))
+      ap (λ n. drop n (encoded s ++ rest)) {x = files_at (length s.directories)} {y = DIRECTORIES + HEAD_SIZE * length s.directories + 2} (omega arith)
+      ∙ sym (drop-drop 2 (DIRECTORIES + HEAD_SIZE * length s.directories) (encoded s ++ rest))
       ∙ ap (drop 2) drop_to_count
       ∙ drop_at (le16 (length s.files)) behind_files 2 (length_le16 (length s.files))
 
   pub next_back : s.next < 2 ^ 32 → word (encoded s ++ rest) 0 ≡ s.next
   next_back h = ap (λ l. word l 0) whole ∙ word_le32 s.next _ h
 
-  pub directories_count : length s.directories < 2 ^ 16 → half (encoded s ++ rest) count_at ≡ length s.directories
-  directories_count h = half_drop (encoded s ++ rest) count_at ∙ ap (λ l. half l 0) drop_next ∙ half_le16 (length s.directories) _ h
+  pub directories_count : length s.directories < 2 ^ 16 → half (encoded s ++ rest) COUNT ≡ length s.directories
+  directories_count h = half_drop (encoded s ++ rest) COUNT ∙ ap (λ l. half l 0) drop_next ∙ half_le16 (length s.directories) _ h
 
-  pub files_count : length s.files < 2 ^ 16 → half (encoded s ++ rest) (directories_at + head_size * length s.directories) ≡ length s.files
+  pub files_count : length s.files < 2 ^ 16 → half (encoded s ++ rest) (DIRECTORIES + HEAD_SIZE * length s.directories) ≡ length s.files
   files_count h =
-      half_drop (encoded s ++ rest) (directories_at + head_size * length s.directories)
+      half_drop (encoded s ++ rest) (DIRECTORIES + HEAD_SIZE * length s.directories)
       ∙ ap (λ l. half l 0) drop_to_count
       ∙ half_le16 (length s.files) behind_files h
 
@@ -110,12 +112,12 @@ all_from_at P n (o ∷ l) r h = (
 )
 
 at_only : (q : Object → Bool) (u : Option Object) (o : Object) → only q u ≡ Some o → (u ≡ Some o) × (q o ≡ true)
-at_only q None o e = let z : ◌≡◌ {A = ℕ} 0 1 = cc in absurd (omega arith)
+at_only q None o e = absurd (none-some o e)
 at_only q (Some p) o e = go (q p) refl
   where
     go : (b : Bool) → q p ≡ b → (Some p ≡ Some o) × (q o ≡ true)
     go true h = let f : Some p ≡ Some o = sym (cond-true (q p) (Some p) None h) ∙ e in let same : p ≡ o = cc in (f, ap q (sym same) ∙ h)
-    go false h = let f : None ≡ Some o = sym (cond-false (q p) (Some p) None h) ∙ e in let z : ◌≡◌ {A = ℕ} 0 1 = cc in absurd (omega arith)
+    go false h = let f : None ≡ Some o = sym (cond-false (q p) (Some p) None h) ∙ e in absurd (none-some o f)
 
 module _ (t : Tree) (lawful : Lawful t) where
   pub lawful_fits : (x : ℕ) (o : Object) → at x t.objects ≡ Some o → Fit o
@@ -171,9 +173,9 @@ module _ (t : Tree) (lawful : Lawful t) where
   sections_back small rest =
       let s = sections_of t in
       let bs = image t ++ rest in
-      ap (λ n. sections_in n (half bs count_at) (half bs (directories_at + head_size * half bs count_at)) bs)
+      ap (λ n. sections_in n (half bs COUNT) (half bs (DIRECTORIES + HEAD_SIZE * half bs COUNT)) bs)
       (next_back s rest (omega (arith, lawful.next_high)))
-      ∙ ap (λ d. sections_in t.next d (half bs (directories_at + head_size * d)) bs) (directories_count s rest small.directories)
+      ∙ ap (λ d. sections_in t.next d (half bs (DIRECTORIES + HEAD_SIZE * d)) bs) (directories_count s rest small.directories)
       ∙ ap (λ f. sections_in t.next (length s.directories) f bs) (files_count s rest small.files)
       ∙ sections_in_back s rest section_fits
 

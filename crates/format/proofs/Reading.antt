@@ -6,7 +6,7 @@ use Rattle.tree.specs.Questions.{contents, kind_of}
 use Rattle.tree.specs.Trees.{Object}
 use Rattle.format.specs.Entries.{directory_in, entry_bytes, entry_in, file_bytes, file_in, head_bytes, name_field, stamp_field}
 use Rattle.format.specs.Fields.{half, le16, le32, word}
-use Rattle.format.specs.Layout.{author_at, contents_at, name_at, name_length_at, parent_at, serial_at}
+use Rattle.format.specs.declared.layout.TheConstants.{AUTHOR, CONTENTS, NAME, NAME_LENGTH, PARENT, SERIAL}
 use Rattle.format.specs.Reading.{Holds, Shows}
 use Rattle.format.proofs.Codec.{Fit, contents_back, entry_back, length_back}
 use Rattle.format.proofs.Lengths.{length_entry}
@@ -18,27 +18,27 @@ unfolding directory_in file_in
 read_number Directory bs = refl
 read_number File bs = refl
 
-read_parent : (k : Kind) (bs : List ℕ) → (entry_in k bs).parent ≡ word bs parent_at
+read_parent : (k : Kind) (bs : List ℕ) → (entry_in k bs).parent ≡ word bs PARENT
 unfolding directory_in file_in
 read_parent Directory bs = refl
 read_parent File bs = refl
 
-read_author : (k : Kind) (bs : List ℕ) → (entry_in k bs).stamp.author ≡ half bs author_at
+read_author : (k : Kind) (bs : List ℕ) → (entry_in k bs).stamp.author ≡ half bs AUTHOR
 unfolding directory_in file_in
 read_author Directory bs = refl
 read_author File bs = refl
 
-read_serial : (k : Kind) (bs : List ℕ) → (entry_in k bs).stamp.serial ≡ word bs serial_at
+read_serial : (k : Kind) (bs : List ℕ) → (entry_in k bs).stamp.serial ≡ word bs SERIAL
 unfolding directory_in file_in
 read_serial Directory bs = refl
 read_serial File bs = refl
 
-read_name : (k : Kind) (bs : List ℕ) → (entry_in k bs).name ≡ take (get_or bs name_length_at 0) (drop name_at bs)
+read_name : (k : Kind) (bs : List ℕ) → (entry_in k bs).name ≡ take (get_or bs NAME_LENGTH 0) (drop NAME bs)
 unfolding directory_in file_in
 read_name Directory bs = refl
 read_name File bs = refl
 
-read_length : (k : Kind) (o : Object) (rest : List ℕ) → get_or (entry_bytes k o ++ rest) name_length_at 0 ≡ length o.name
+read_length : (k : Kind) (o : Object) (rest : List ℕ) → get_or (entry_bytes k o ++ rest) NAME_LENGTH 0 ≡ length o.name
 unfolding head_bytes file_bytes le32 le16 stamp_field name_field
 read_length Directory o rest = refl
 read_length File o rest = refl
@@ -55,7 +55,7 @@ shows k o rest fit kind =
       author = sym (read_author k bs) ∙ ap (λ p. p.stamp.author) back;
       serial = sym (read_serial k bs) ∙ ap (λ p. p.stamp.serial) back;
       name_length = count;
-      name = ap (λ n. take n (drop name_at bs)) (sym count) ∙ sym (read_name k bs) ∙ ap (λ p. p.name) back;
+      name = ap (λ n. take n (drop NAME bs)) (sym count) ∙ sym (read_name k bs) ∙ ap (λ p. p.name) back;
       short = fit.name;
     }
 
@@ -63,4 +63,4 @@ pub holds : (o : Object) (rest : List ℕ) → Fit o → Holds (contents o) (fil
 holds o rest fit =
     let bs = file_bytes o ++ rest in
     let count = length_back o rest fit in
-    record { count = count; bytes = ap (λ n. take n (drop contents_at bs)) (sym count) ∙ contents_back o rest fit; short = fit.contents }
+    record { count = count; bytes = ap (λ n. take n (drop CONTENTS bs)) (sym count) ∙ contents_back o rest fit; short = fit.contents }

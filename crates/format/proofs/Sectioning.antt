@@ -2,6 +2,7 @@
 use Rattle.std.proofs.Common.{◌≡◌, ℕ, zero, suc, ◌+◌, ◌<◌, ◌≤◌, min, Bool, true, false, cond, not, ◌&&◌, ◌||◌, ltb, List, [], ◌∷◌, length, get_or, Some, None, Option, sym, refl, ap, ◌∙◌, arith}
 use Rattle.std.specs.List.{AllByRecursion}
 use Rattle.std.proofs.lemmas.Bool.{cases_Bool, cond-false, cond-true, eqb-false, eqb-true}
+use Rattle.std.proofs.lemmas.Option.{none-some}
 use Rattle.tree.specs.Questions.{child, child_of, directory, regular, smaller}
 use Rattle.tree.specs.Trees.{Ascends, Object, at, change, change_one, higher, insert, is, keep, lower, some_of, without}
 use Rattle.tree.proofs.Ascending.{ascends_at, ascends_insert, ascends_keep, ascends_weaker, at_insert_other, at_keep, at_low, change_none, insert_behind, insert_low, only, or_else, split_ascends, without_none}
@@ -100,7 +101,7 @@ together_at x [] fs h k = k
 together_at x (o ∷ ds) fs h k = go (λ e. together_at x ds fs e k) (is x o) refl
   where
     go : (at x ds ≡ None → at x (together ds fs) ≡ None) → (b : Bool) → is x o ≡ b → at x (insert o (together ds fs)) ≡ None
-    go ih true e = let z : Some o ≡ None = sym (cond-true (is x o) (Some o) (at x ds) e) ∙ h in let y : ◌≡◌ {A = ℕ} 0 1 = cc in absurd (omega arith)
+    go ih true e = let z : Some o ≡ None = sym (cond-true (is x o) (Some o) (at x ds) e) ∙ h in absurd (none-some o (sym z))
     go ih false e = at_insert_other o (together ds fs) x (eqb-false o.number x e) ∙ ih (sym (cond-false (is x o) (Some o) (at x ds) e) ∙ h)
 
 pub together_ascends : (n : ℕ) (ds fs : List Object) → Ascends n ds → Ascends n fs → AllByRecursion (λ o. at o.number fs ≡ None) ds → Ascends n (together ds fs)

@@ -15,7 +15,8 @@ use Rattle.vocab.specs.declared.stamp.Stamp.{Stamp}
 use Rattle.tree.specs.Questions.{contents}
 use Rattle.tree.specs.Trees.{Object, dir, file}
 use Rattle.format.specs.Fields.{half, le16, le32, word}
-use Rattle.format.specs.Layout.{author_at, contents_at, entry_size, head_size, name_at, name_length_at, parent_at, serial_at}
+use Rattle.format.specs.Layout.{entry_size}
+use Rattle.format.specs.declared.layout.TheConstants.{AUTHOR, CONTENTS, HEAD_SIZE, NAME, NAME_LENGTH, PARENT, SERIAL}
 
 unfoldable pub stamp_field : Stamp → List ℕ
 stamp_field s = le16 s.author ++ le32 s.serial
@@ -41,19 +42,19 @@ entry_bytes File o = file_bytes o
 unfoldable pub directory_in : List ℕ → Object
 directory_in bs = record {
   number = word bs 0;
-  parent = word bs parent_at;
-  name = take (slice_index bs name_length_at) (drop name_at bs);
-  stamp = record { author = half bs author_at; serial = word bs serial_at };
+  parent = word bs PARENT;
+  name = take (slice_index bs NAME_LENGTH) (drop NAME bs);
+  stamp = record { author = half bs AUTHOR; serial = word bs SERIAL };
   body = dir;
 }
 
 unfoldable pub file_in : List ℕ → Object
 file_in bs = record {
   number = word bs 0;
-  parent = word bs parent_at;
-  name = take (slice_index bs name_length_at) (drop name_at bs);
-  stamp = record { author = half bs author_at; serial = word bs serial_at };
-  body = file (take (half bs head_size) (drop contents_at bs));
+  parent = word bs PARENT;
+  name = take (slice_index bs NAME_LENGTH) (drop NAME bs);
+  stamp = record { author = half bs AUTHOR; serial = word bs SERIAL };
+  body = file (take (half bs HEAD_SIZE) (drop CONTENTS bs));
 }
 
 abbrev pub entry_in : Kind → List ℕ → Object

@@ -23,7 +23,8 @@ use Rattle.tree.specs.Questions.{directory, regular}
 use Rattle.tree.specs.Trees.{Object, Tree, insert, keep}
 use Rattle.format.specs.Entries.{entries, file_bytes, head_bytes}
 use Rattle.format.specs.Fields.{half, le16, le32, word, written}
-use Rattle.format.specs.Layout.{capacity_in, count_at, directories_at, file_size, files_at, head_size, least_size}
+use Rattle.format.specs.Layout.{capacity_in, files_at}
+use Rattle.format.specs.declared.layout.TheConstants.{COUNT, DIRECTORIES, FILE_SIZE, HEAD_SIZE, LEAST_SIZE}
 
 pub record Sections : Type 0 where
   pub next : ℕ
@@ -49,7 +50,7 @@ with_section Directory s l = record { next = s.next; directories = l; files = s.
 with_section File s l = record { next = s.next; directories = s.directories; files = l }
 
 abbrev pub section_at : Kind → Sections → ℕ
-section_at Directory s = directories_at
+section_at Directory s = DIRECTORIES
 section_at File s = files_at (length s.directories)
 
 -- ---- the bytes
@@ -60,7 +61,7 @@ encoded s =
     ++ (le16 (length s.directories) ++ (flat_map head_bytes s.directories ++ (le16 (length s.files) ++ flat_map file_bytes s.files)))
 
 abbrev pub size : Sections → ℕ
-size s = files_at (length s.directories) + file_size * length s.files
+size s = files_at (length s.directories) + FILE_SIZE * length s.files
 
 abbrev pub image : Tree → List ℕ
 image t = encoded (sections_of t)
@@ -68,10 +69,10 @@ image t = encoded (sections_of t)
 -- ---- the way back
 
 abbrev pub sections_in : ℕ → ℕ → ℕ → List ℕ → Sections
-sections_in n d f bs = record { next = n; directories = entries Directory d (drop directories_at bs); files = entries File f (drop (files_at d) bs) }
+sections_in n d f bs = record { next = n; directories = entries Directory d (drop DIRECTORIES bs); files = entries File f (drop (files_at d) bs) }
 
 abbrev pub sections_read : List ℕ → Sections
-sections_read bs = let d = half bs count_at in sections_in (word bs 0) d (half bs (directories_at + head_size * d)) bs
+sections_read bs = let d = half bs COUNT in sections_in (word bs 0) d (half bs (DIRECTORIES + HEAD_SIZE * d)) bs
 
 abbrev pub decoded : ℕ → List ℕ → Tree
 decoded cap bs = tree_of cap (sections_read bs)
@@ -83,4 +84,4 @@ abbrev pub Begins : List ℕ → Sections → Type 0
 Begins bs s = bs ≡ encoded s ++ drop (size s) bs
 
 abbrev pub fronted : List ℕ → ℕ → List ℕ → List ℕ
-fronted bs p field = cond (nat_lt (length bs) least_size) bs (written bs p field)
+fronted bs p field = cond (nat_lt (length bs) LEAST_SIZE) bs (written bs p field)

@@ -1,5 +1,6 @@
 pub mod Standing
-pub mod Finding
+pub mod Locating
+pub mod Searching
 pub mod Storing
 pub mod Inserting
 pub mod Rewriting

@@ -1,17 +1,12 @@
 // Numbers in bytes, the lowest byte first.
 ghost use Rattle.std.specs.Prelude.{◌≡◌, ◌+◌, ◌≤◌, length};
-ghost use Rattle.format.specs.Fields.{half, word};
+ghost use Rattle.format.specs.Fields.{word};
 
-pub(crate) fn half_at(bytes: &[u8], at: usize) -> u16
-    requires { at + 2 ≤ length bytes.now }
-    ensures { result ≡ half bytes.now at }
-{
-    u16::from_le_bytes([bytes[at], bytes[at + 1]])
-}
+use vocab::number::Number;
 
-pub(crate) fn word_at(bytes: &[u8], at: usize) -> u32
+pub(crate) fn number_in(bytes: &[u8], at: usize) -> Number
     requires { at + 4 ≤ length bytes.now }
     ensures { result ≡ word bytes.now at }
 {
-    u32::from_le_bytes([bytes[at], bytes[at + 1], bytes[at + 2], bytes[at + 3]])
+    Number(u32::from_le_bytes([bytes[at], bytes[at + 1], bytes[at + 2], bytes[at + 3]]))
 }

@@ -1,11 +1,10 @@
-// Fields written over bytes, and gaps that are opened and closed among them.
+// Fields written over bytes, and gaps that are opened and closed among them. Bytes and a place,
+// and no part of the bytes: each call would have to say the size of the field, which the writer knows.
 ghost use Rattle.std.specs.Prelude.{◌≡◌, ◌+◌, ◌≤◌, length};
 ghost use Rattle.format.specs.Fields.{written, opened, closed};
 ghost use Rattle.format.specs.Images.{fronted};
-ghost use Rattle.format.specs.Layout.{least_size};
 
-// Fewer bytes keep no image.
-pub(crate) const LEAST_BYTES: usize = 305;
+use format::layout::LEAST_SIZE;
 
 pub(crate) fn write(bytes: &mut [u8], at: usize, field: &[u8])
     requires { at + length field.now ≤ length bytes.old }
@@ -16,10 +15,10 @@ pub(crate) fn write(bytes: &mut [u8], at: usize, field: &[u8])
 
 // Where the bytes are too few for an image, none is written.
 pub(crate) fn write_front(bytes: &mut [u8], at: usize, field: &[u8])
-    requires { at + length field.now ≤ least_size }
+    requires { at + length field.now ≤ LEAST_SIZE }
     ensures { bytes.new ≡ fronted bytes.old at field.now }
 {
-    if bytes.len() >= LEAST_BYTES {
+    if bytes.len() >= LEAST_SIZE {
         write(bytes, at, field);
     }
 }

@@ -3,8 +3,9 @@
 
 ghost use Rattle.std.specs.Prelude.{◌≤◌, length};
 ghost use Rattle.tree.specs.Law.{Lawful};
+ghost use Rattle.tree.proofs.Props.{lawful_prop};
 ghost use Rattle.format.specs.Images.{Begins, sections_of, tree_in};
-ghost use Rattle.format.specs.Layout.{least_size};
+ghost use Rattle.format.specs.declared.layout.TheConstants.{LEAST_SIZE};
 
 use vocab::number::Number;
 
@@ -15,14 +16,15 @@ pub struct Image {
     next: Number,
     directories: usize,
     files: usize,
-    ghost lawful: { ∥ Lawful (tree_in bytes.items next.0 directories files) ∥₁ },
-    ghost held: { (least_size ≤ length bytes.items → Begins bytes.items (sections_of (tree_in bytes.items next.0 directories files))) },
+    ghost lawful: { Lawful (tree_in bytes.items next directories files) } by { lawful_prop (tree_in bytes.items next directories files) },
+    ghost held: { (LEAST_SIZE ≤ length bytes.items
+        → Begins bytes.items (sections_of (tree_in bytes.items next directories files))) },
 }
 
-mod asking;
 mod changing;
 mod entry;
 mod field;
+mod finding;
 mod gap;
 mod head;
 mod place;

@@ -1,4 +1,5 @@
-// A place in an image: a section, and an entry of it.
+// A place in an image: a section, and an entry of it. That it stands there is asked at each call: a type that says so
+// would have to borrow the image, which a change takes whole.
 use vocab::kind::Kind;
 
 #[derive(Clone, Copy)]

@@ -1,21 +1,20 @@
 // Where the entries of an image stand, and what they show.
-ghost use Rattle.std.specs.Prelude.{◌≡◌, ◌+◌, ◌*◌, ◌<◌, ◌≤◌, length, slice_index_or};
-ghost use Rattle.tree.specs.Questions.{contents};
-ghost use Rattle.tree.specs.Trees.{Object};
+ghost use Rattle.std.specs.Prelude.{◌≡◌, ◌+◌, ◌*◌, ◌≤◌, length};
 ghost use Rattle.format.specs.Images.{section, section_at, size};
-ghost use Rattle.format.specs.Layout.{entry_size, raised, lowered};
+ghost use Rattle.format.specs.Layout.{entry_size};
 ghost use Rattle.format.specs.Reading.{Shows};
-ghost use Rattle.image.specs.Searches.{nothing};
-ghost use Rattle.image.specs.Stores.{store_sections, tree_of};
+ghost use Rattle.image.specs.Heads.{Heads};
+ghost use Rattle.image.specs.Places.{found};
+ghost use Rattle.image.specs.Searches.{Numbers};
+ghost use Rattle.image.specs.Stores.{store_sections, tree_of, Within};
 
 use crate::Image;
-use crate::entry::{FILE_SIZE, HEAD_SIZE, size_of};
+use crate::entry::size_of;
+use crate::field::number_in;
+use crate::head::EntryHead;
+use crate::place::Place;
+use format::layout::{BARE_SIZE, DIRECTORIES, FILE_SIZE, HEAD_SIZE, NAME, NAME_LENGTH, PARENT};
 use vocab::kind::Kind;
-
-// Where the directories begin, behind the next number and their count.
-const DIRECTORIES: usize = 6;
-// The size of an image with no objects.
-pub(crate) const BARE_SIZE: usize = 8;
 
 impl Image {
     pub(crate) fn count_of(&self, kind: Kind) -> usize
@@ -24,27 +23,6 @@ impl Image {
         match kind {
             Kind::Directory => self.directories,
             Kind::File => self.files,
-        }
-    }
-
-    // The counts of directories and of files, with one more of a kind.
-    pub(crate) fn counts_with(&self, kind: Kind) -> (usize, usize)
-        ensures { result ≡ raised kind self.now.directories self.now.files }
-    {
-        match kind {
-            Kind::Directory => (self.directories + 1, self.files),
-            Kind::File => (self.directories, self.files + 1),
-        }
-    }
-
-    // The counts of directories and of files, with one less of a kind.
-    pub(crate) fn counts_without(&self, kind: Kind) -> (usize, usize)
-        requires { 0 < length (section kind (store_sections self.now)) }
-        ensures { result ≡ lowered kind self.now.directories self.now.files }
-    {
-        match kind {
-            Kind::Directory => (self.directories - 1, self.files),
-            Kind::File => (self.directories, self.files - 1),
         }
     }
 
@@ -65,20 +43,46 @@ impl Image {
         BARE_SIZE + HEAD_SIZE * self.directories + FILE_SIZE * self.files
     }
 
-    // Where an entry stands, or one more would.
-    pub(crate) fn place_of(&self, kind: Kind, index: usize) -> usize
-        requires { index ≤ length (section kind (store_sections self.now)) }
-        ensures { result ≡ section_at kind (store_sections self.now) + entry_size kind * index }
+    // Where an entry begins, or one more would.
+    pub(crate) fn offset_of(&self, place: Place) -> usize
+        requires { place.index ≤ length (section place.kind (store_sections self.now)) }
+        ensures { result ≡ section_at place.kind (store_sections self.now) + entry_size place.kind * place.index }
     {
-        self.start_of(kind) + size_of(kind) * index
+        self.start_of(place.kind) + size_of(place.kind) * place.index
+    }
+
+    // All entries of a kind.
+    pub(crate) fn entries(&self, kind: Kind) -> &[u8]
+        ensures len { length result.now ≡ entry_size kind * length (section kind (store_sections self.now)) }
+        ensures numbers { Numbers (entry_size kind) (section kind (store_sections self.now)) result.now }
+    {
+        let count = self.count_of(kind);
+        if count == 0 {
+            return &[];
+        }
+        let end = self.offset_of(Place { kind, index: count });
+        &self.bytes.as_slice()[self.start_of(kind)..end]
     }
 
     // An entry, and what stands behind it.
-    pub(crate) fn entry(&self, kind: Kind, index: usize) -> &[u8]
-        requires { index < length (section kind (store_sections self.now)) }
-        ensures { Shows kind (slice_index_or (section kind (store_sections self.now)) index nothing) result.now }
+    pub(crate) fn entry(&self, place: Place) -> &[u8]
+        requires { Within self.now place }
+        ensures { Shows place.kind (found (tree_of self.now) place) result.now }
     {
         let all = self.bytes.as_slice();
-        &all[self.place_of(kind, index)..]
+        &all[self.offset_of(place)..]
+    }
+
+    pub(crate) fn head(&self, place: Place) -> EntryHead<'_>
+        requires { Within self.now place }
+        ensures { Heads (found (tree_of self.now) place) result }
+    {
+        let entry = self.entry(place);
+        let len = entry[NAME_LENGTH] as usize;
+        EntryHead {
+            number: number_in(entry, 0),
+            parent: number_in(entry, PARENT),
+            name: &entry[NAME..NAME + len],
+        }
     }
 }

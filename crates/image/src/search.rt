@@ -1,97 +1,61 @@
 // Searches through the entries of a section.
-ghost use Rattle.std.specs.Prelude.{◌≡◌, ℕ, Bool, ◌&&◌, List, ◌==◌, nat_lt};
-ghost use Rattle.vocab.specs.Names.{same_name};
+ghost use Rattle.std.specs.Prelude.{◌≡◌, ◌^◌, ◌/◌, ◌<◌, ◌≤◌, length};
+ghost use Rattle.std.specs.List.Sorted.{IsBinarySearchResult, IsSearchInRange};
+ghost use Rattle.std.specs.Ordering.{nat_cmp};
+ghost use Rattle.std.specs.Simd.{first_chunks};
+ghost use Rattle.asking.specs.Tests.{passing};
+ghost use Rattle.format.specs.Fields.{word};
 ghost use Rattle.format.specs.Images.{section};
 ghost use Rattle.image.specs.Searches.{First, Located};
 ghost use Rattle.image.specs.Stores.{store_sections};
 
 use crate::Image;
-use crate::entry::size_of;
-use crate::field::word_at;
-use crate::head::Head;
+use crate::field::number_in;
+use crate::place::Place;
+use asking::test::Test;
+use format::layout::{FILE_SIZE, HEAD_SIZE};
 use vocab::kind::Kind;
-use vocab::name::naming::same;
 use vocab::number::Number;
 
-// What a search looks for, by the number, the parent and the name of an object.
-pub(crate) trait Test {
-    ghost passes: { Self → ℕ → ℕ → List ℕ → Bool };
-
-    fn test(&self, head: &Head) -> bool
-        ensures { result ≡ passes self.now head.now.number.0 head.now.parent.0 head.now.name.now };
-}
-
-#[derive(Clone, Copy)]
-pub(crate) struct HasPlace<'a> {
-    pub(crate) parent: Number,
-    pub(crate) name: &'a [u8],
-}
-
-impl Test for HasPlace<'_> {
-    ghost passes = { λ t x p n. (p == t.parent.0) && same_name n t.name.now };
-
-    fn test(&self, head: &Head) -> bool {
-        head.parent.0 == self.parent.0 && same(head.name, self.name)
-    }
-}
-
-#[derive(Clone, Copy)]
-pub(crate) struct HasParent(pub(crate) Number);
-
-impl Test for HasParent {
-    ghost passes = { λ t x p n. (p == t.0.0) };
-
-    fn test(&self, head: &Head) -> bool {
-        head.parent.0 == self.0.0
-    }
-}
-
-// An object of a parent, of a number above another.
-#[derive(Clone, Copy)]
-pub(crate) struct Follows {
-    pub(crate) parent: Number,
-    pub(crate) above: Number,
-}
-
-impl Test for Follows {
-    ghost passes = { λ t x p n. (p == t.parent.0) && nat_lt t.above.0 x };
-
-    fn test(&self, head: &Head) -> bool {
-        head.parent.0 == self.parent.0 && self.above.0 < head.number.0
-    }
-}
-
 impl Image {
-    pub(crate) fn first<T: Test>(&self, kind: Kind, test: &T) -> Option<usize>
-        ensures { First (λ o. T.passes test.now o.number o.parent o.name) (section kind (store_sections self.now)) result }
+    pub(crate) fn first<T: Test>(&self, kind: Kind, test: &T) -> Option<Place>
+        ensures { First kind (passing (T.passes test.now)) (store_sections self.now) result }
     {
-        for i in 0..self.count_of(kind) {
-            let head = self.head(kind, i);
-            if test.test(&head) {
-                return Some(i);
+        // No `find`: it was tried, and the proof that the first that passes is given did not close.
+        for index in 0..self.count_of(kind) {
+            let place = Place { kind, index };
+            if test.test(&self.head(place)) {
+                return Some(place);
             }
         }
         None
     }
 
-    // The place of a number, or the place where it would stand.
+    // The index of a number among the entries of a kind, or that at which it would stand.
     pub(crate) fn search(&self, kind: Kind, number: Number) -> Result<usize, usize>
-        ensures { Located number.0 (section kind (store_sections self.now)) result }
+        ensures { Located number (section kind (store_sections self.now)) result }
     {
-        let mut low = 0;
-        let mut high = self.count_of(kind);
-        while low < high {
-            let middle = low + (high - low) / 2;
-            let here = word_at(self.entry(kind, middle), 0);
-            if here == number.0 {
-                return Ok(middle);
-            }
-            if here < number.0 {
-                low = middle + 1;
-            } else {
-                high = middle;
-            }
+        let entries = self.entries(kind);
+        match kind {
+            Kind::Directory => locate::<HEAD_SIZE>(entries, number),
+            Kind::File => locate::<FILE_SIZE>(entries, number),
         }
-        Err(low)
     }
+}
+
+// The same among entries of N bytes.
+fn locate<const N: usize>(entries: &[u8], number: Number) -> Result<usize, usize>
+    requires { (4 ≤ N) × (N < 2 ^ 63) }
+    ensures bound { IsSearchInRange result (length entries.now / N) }
+    ensures position { IsBinarySearchResult (λ e. nat_cmp (word e 0) number)
+        (first_chunks N (length entries.now / N) entries.now) result }
+{
+    let (entries, _) = entries.as_chunks::<N>();
+    entries.binary_search_by_key(
+        &number,
+        |entry|
+            requires { 4 ≤ N }
+            ensures { result ≡ word entry.entry.now 0 }
+        { number_in(entry, 0) },
+    )
 }

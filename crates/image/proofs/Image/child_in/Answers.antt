@@ -1,17 +1,13 @@
 use Rattle.std.proofs.Common.{Some, sym, ap, ◌∙◌}
-use Rattle.vocab.specs.Meaning.{numbered}
-use Rattle.format.specs.Images.{section}
-use Rattle.image.specs.Stores.{store_sections}
-use Rattle.image.proofs.Finding.{child_first, child_none}
+use Rattle.image.specs.Stores.{tree_of}
+use Rattle.image.proofs.Locating.{child_first, child_none}
 use Rattle.image.proofs.Image.child_in.Goals as goal
 
-pub returns-in_err-index : goal.returns-in_err-index
-returns-in_err-index c =
-    let l = section c.args.kind (store_sections c.args.self.now) in
-    c.from_residual.ensures ∙ sym (ap numbered (child_none c.args.parent.0 c.args.above.0 l c.in_err-index.ensures))
+pub returns-in_err-place : goal.returns-in_err-place
+returns-in_err-place c =
+    c.from_residual.ensures ∙ sym (child_none (tree_of c.args.self.now) c.args.parent c.args.above c.args.kind c.in_err-place.ensures)
 
 pub returns : goal.returns
 returns c =
-    let l = section c.args.kind (store_sections c.args.self.now) in
-    ap (λ x. Some (record { 0 = x })) c.number_at.ensures
-    ∙ sym (ap numbered (child_first c.args.parent.0 c.args.above.0 l c.in_ok-index.index c.in_ok-index.ensures))
+    ap Some c.number_at.ensures
+    ∙ sym (child_first (tree_of c.args.self.now) c.args.parent c.args.above c.args.kind c.in_ok-place.place c.in_ok-place.ensures)

@@ -8,10 +8,10 @@ use Rattle.image.specs.Stores.{bytes_of, store_sections, tree_of}
 use Rattle.image.proofs.Standing.{law, place_held, place_low}
 use Rattle.image.proofs.Image.entry.Goals as goal
 
-within : (c : goal.After-place_of) → c.place_of.result ≤ length c.as_slice-all.result.now
+within : (c : goal.After-offset_of) → c.offset_of.result ≤ length c.as_slice-all.result.now
 within c =
     let s = c.args.self.now in
-    omega (arith, ap length c.as_slice-all.ensures.value, place_held s c.args.kind c.args.index c.requires, place_low s c.args.kind c.args.index (omega (arith, c.requires)))
+    omega (arith, ap length c.as_slice-all.ensures.value, place_held s c.args.place.kind c.args.place.index c.requires, place_low s c.args.place.kind c.args.place.index (omega (arith, c.requires)))
 
 pub slice_bounds-result-count : goal.slice_bounds-result-count
 slice_bounds-result-count c = within c
@@ -23,11 +23,11 @@ pub returns : goal.returns
 unfolding tree_of
 returns c =
     let s = c.args.self.now in
-    let k = c.args.kind in
+    let k = c.args.place.kind in
     let all = c.as_slice-all.result.now in
-    let p = c.place_of.result in
+    let p = c.offset_of.result in
     let same : take (length all - p) (drop p all) ≡ drop p all = take_all (length all - p) (drop p all) (omega (arith, length-drop p all)) in
-    let shown = entry_shown (bytes_of s) s.next.0 s.directories s.files (law s) s.held k c.args.index c.requires nothing in
-    let at = sym c.place_of.ensures in
+    let shown = entry_shown (bytes_of s) s.next s.directories s.files (law s) s.held k c.args.place.index c.requires nothing in
+    let at = sym c.offset_of.ensures in
     let bytes = sym c.as_slice-all.ensures.value in
-    subst (Shows k (get_or (section k (store_sections s)) c.args.index nothing)) ((λ i. drop (at i) (bytes i)) ∙ sym same) shown
+    subst (Shows k (get_or (section k (store_sections s)) c.args.place.index nothing)) ((λ i. drop (at i) (bytes i)) ∙ sym same) shown

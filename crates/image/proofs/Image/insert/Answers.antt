@@ -1,76 +1,66 @@
-use Rattle.std.proofs.Common.{◌≡◌, length, sym, ap, ◌∙◌, subst, arith}
-use Rattle.vocab.specs.Meaning.{name_of}
-use Rattle.tree.specs.Changes.{fresh}
-use Rattle.tree.specs.Trees.{insert, with_objects}
-use Rattle.format.specs.Fields.{le16}
-use Rattle.format.proofs.Changing.{Kept}
+use Rattle.std.proofs.Common.{◌≡◌, ℕ, ◌+◌, ◌≤◌, length, arith}
+use Rattle.tree.specs.Meaning.{status_of}
+use Rattle.tree.specs.Trees.{insert}
+use Rattle.format.proofs.Changing.{raised}
 use Rattle.image.specs.Stores.{spare_of, tree_of}
-use Rattle.image.proofs.Inserting.{entered_by, large, room_behind, taken_number}
-use Rattle.image.proofs.Standing.{count_low, place_low}
-use Rattle.image.proofs.Storing.{held_after, lawful_after, spare_after, tree_after}
+use Rattle.image.proofs.Inserting.{entered, openable, taken_number}
+use Rattle.image.proofs.Standing.{count_low, directory_more, file_more, start_low}
+use Rattle.image.proofs.Storing.{Settled}
 use Rattle.image.proofs.Image.insert.Goals as goal
+use Rattle.image.proofs.Image.insert.Goals.{After-size_of, After-write_count}
 
 pub returns-in_default : goal.returns-in_default
-returns-in_default c =
-    absurd (taken_number c.args.self.now c.args.kind c.args.parent.0 (name_of c.args.name.now) c.args.number.0 c.args.stamp c.requires.free c.in_default.field-0 c.in_default.ensures)
+returns-in_default c = absurd (taken_number c.args.self.now c.args.status.now.kind c.args.status.now.number c.in_default.field-0 c.requires.free c.in_default.ensures)
+
+gap : (c : After-size_of) → (c.offset_of-at.result ≤ c.end-end.result) × (c.end-end.result + c.size_of.result ≤ length c.as_mut_slice-bytes.result.now)
+gap c =
+    openable c.args.self.now c.args.status.now c.requires.room c.in-Err.index c.in-Err.ensures c.offset_of-at.result c.end-end.result c.size_of.result
+    c.offset_of-at.ensures c.end-end.ensures c.size_of.ensures c.as_mut_slice-bytes.result.now c.as_mut_slice-bytes.ensures.value
 
 pub open_gap-requires : goal.open_gap-requires
-open_gap-requires c =
-    let s = c.args.self.now in
-    let k = c.args.kind in
-    let room = room_behind s k c.args.parent.0 (name_of c.args.name.now) c.args.number.0 c.args.stamp c.requires.free c.requires.room in
-    (omega (arith, place_low s k c.in-Err.index c.in-Err.ensures.0), omega (arith, ap length c.as_mut_slice-bytes.ensures.value))
+open_gap-requires c = gap (goal.at.open_gap-requires c).After-size_of
 
 pub write_entry-requires : goal.write_entry-requires
-write_entry-requires c =
-    let s = c.args.self.now in
-    let k = c.args.kind in
-    let room = room_behind s k c.args.parent.0 (name_of c.args.name.now) c.args.number.0 c.args.stamp c.requires.free c.requires.room in
-    omega (arith, place_low s k c.in-Err.index c.in-Err.ensures.0, ap length c.as_mut_slice-bytes.ensures.value)
+write_entry-requires c = omega (arith, gap (goal.at.write_entry-requires c).After-size_of, c.size_of.ensures)
 
-pub overflow_cast-count : goal.overflow_cast-count
-overflow_cast-count c = omega (arith, count_low c.args.self.now c.args.kind)
-
-pub write-requires : goal.write-requires
-write-requires c =
+pub write_count-requires : goal.write_count-requires
+write_count-requires c =
     let s = c.args.self.now in
-    let k = c.args.kind in
-    let room = room_behind s k c.args.parent.0 (name_of c.args.name.now) c.args.number.0 c.args.stamp c.requires.free c.requires.room in
-    omega (arith, place_low s k c.in-Err.index c.in-Err.ensures.0, ap length c.as_mut_slice-bytes.ensures.value, ap length c.to_le_bytes.ensures)
+    let k = c.args.status.now.kind in
+    let low = start_low s k in
+    (omega (arith, low, c.start_of-start.ensures), omega (arith, low, gap (goal.at.write_count-requires c).After-size_of, c.start_of-start.ensures, c.end-end.ensures), omega (arith, count_low s k))
+
+done : (c : After-write_count) (d f : ℕ) → let s = c.args.self.now in
+    (d, f) ≡ raised c.args.status.now.kind s.directories s.files → Settled s c.write_count.new.bytes d f (insert (status_of c.args.status.now) (tree_of s).objects)
+done c d f counts =
+    entered c.args.self.now c.args.status.now c.requires.room c.in-Err.index c.in-Err.ensures c.offset_of-at.result c.end-end.result c.size_of.result
+    c.offset_of-at.ensures c.end-end.ensures c.size_of.ensures c.requires.lawful
+    c.start_of-start.result c.count_of-count.result c.start_of-start.ensures c.count_of-count.ensures
+    c.as_mut_slice-bytes.result.now c.open_gap.new.bytes c.write_entry.new.bytes c.write_count.new.bytes
+    c.as_mut_slice-bytes.ensures.value c.open_gap.ensures c.write_entry.ensures c.write_count.ensures (omega (arith, c.as_mut_slice-bytes.ensures.len)) d f counts
 
 pub invariant_of-self : goal.invariant_of-self
-unfolding le16
 invariant_of-self c =
-    let s = c.args.self.now in
-    let counts = sym c.counts_with-directories.ensures in
-    let u = with_objects (tree_of s) (insert (fresh c.args.kind c.args.parent.0 (name_of c.args.name.now) c.args.number.0 c.args.stamp) (tree_of s).objects) in
-    let long : length c.write.new.bytes ≡ s.bytes.len = omega (arith, c.as_mut_slice-bytes.ensures.len) in
-    let made =
-    entered_by s c.args.kind c.args.parent.0 (name_of c.args.name.now) c.args.number.0 c.args.stamp c.requires.free c.requires.room c.requires.lawful
-    c.in-Err.index c.in-Err.ensures c.size_of-size.result c.start_of-start.result c.place_of-at.result c.end-end.result c.count_of-count.result
-    c.size_of-size.ensures c.start_of-start.ensures c.place_of-at.ensures c.end-end.ensures c.count_of-count.ensures
-    c.as_mut_slice-bytes.result.now c.open_gap.new.bytes c.write_entry.new.bytes c.write.new.bytes c.to_le_bytes.result
-    c.as_mut_slice-bytes.ensures.value c.open_gap.ensures c.write_entry.ensures c.to_le_bytes.ensures c.write.ensures (long ∙ s.bytes.ok.0) in
-    let kept : Kept c.write.new.bytes s.next.0 c.counts_with-directories.result.0 c.counts_with-directories.result.1 u =
-    subst (λ r. Kept c.write.new.bytes s.next.0 r.0 r.1 u) counts made in
-    record { lawful = lawful_after s c.write.new.bytes long _ _ _ u kept; held = held_after s c.write.new.bytes long _ _ _ u kept }
+    let e = (goal.at.invariant_of-self c).After-write_count in
+    let d = done e _ _ (directory_more e.args.self.now e.args.status.now.kind e.count_of-count.result e.count_of-count.ensures c.in-Directory.is) in
+    record { lawful = d.lawful; held = d.held }
 
-pub returns : goal.returns
-unfolding le16 tree_of spare_of
-returns c =
-    let s = c.args.self.now in
-    let counts = sym c.counts_with-directories.ensures in
-    let u = with_objects (tree_of s) (insert (fresh c.args.kind c.args.parent.0 (name_of c.args.name.now) c.args.number.0 c.args.stamp) (tree_of s).objects) in
-    let long : length c.write.new.bytes ≡ s.bytes.len = omega (arith, c.as_mut_slice-bytes.ensures.len) in
-    let made =
-    entered_by s c.args.kind c.args.parent.0 (name_of c.args.name.now) c.args.number.0 c.args.stamp c.requires.free c.requires.room c.requires.lawful
-    c.in-Err.index c.in-Err.ensures c.size_of-size.result c.start_of-start.result c.place_of-at.result c.end-end.result c.count_of-count.result
-    c.size_of-size.ensures c.start_of-start.ensures c.place_of-at.ensures c.end-end.ensures c.count_of-count.ensures
-    c.as_mut_slice-bytes.result.now c.open_gap.new.bytes c.write_entry.new.bytes c.write.new.bytes c.to_le_bytes.result
-    c.as_mut_slice-bytes.ensures.value c.open_gap.ensures c.write_entry.ensures c.to_le_bytes.ensures c.write.ensures (long ∙ s.bytes.ok.0) in
-    let kept : Kept c.write.new.bytes s.next.0 c.counts_with-directories.result.0 c.counts_with-directories.result.1 u =
-    subst (λ r. Kept c.write.new.bytes s.next.0 r.0 r.1 u) counts made in
-    record {
-      tree = tree_after s c.write.new.bytes long _ _ _ u kept;
-      spare = spare_after s c.write.new.bytes long _ _ _ u kept (λ h. absurd (omega (arith, large s c.requires.room)));
-    }
+pub invariant_of-self-in-File : goal.invariant_of-self-in-File
+invariant_of-self-in-File c =
+    let e = (goal.at.invariant_of-self-in-File c).After-write_count in
+    let d = done e _ _ (file_more e.args.self.now e.args.status.now.kind e.count_of-count.result e.count_of-count.ensures c.in-File.is) in
+    record { lawful = d.lawful; held = d.held }
+
+pub returns-in-Directory : goal.returns-in-Directory
+unfolding tree_of spare_of
+returns-in-Directory c =
+    let e = (goal.at.returns-in-Directory c).After-write_count in
+    let d = done e _ _ (directory_more e.args.self.now e.args.status.now.kind e.count_of-count.result e.count_of-count.ensures c.in-Directory.is) in
+    record { tree = d.tree; spare = d.spare }
+
+pub returns-in-File : goal.returns-in-File
+unfolding tree_of spare_of
+returns-in-File c =
+    let e = (goal.at.returns-in-File c).After-write_count in
+    let d = done e _ _ (file_more e.args.self.now e.args.status.now.kind e.count_of-count.result e.count_of-count.ensures c.in-File.is) in
+    record { tree = d.tree; spare = d.spare }

@@ -1,7 +1,6 @@
 use Rattle.std.proofs.Common.{◌+◌, [], sym, ap, ◌∙◌, arith}
-use Rattle.vocab.specs.Meaning.{name_of}
-use Rattle.vocab.specs.declared.kind.Kind.TheVariants.{Directory}
 use Rattle.tree.specs.Changes.{fresh}
+use Rattle.tree.specs.Meaning.{status_of}
 use Rattle.format.specs.Entries.{contents_field, entry_bytes, file_bytes, head_bytes}
 use Rattle.format.specs.Fields.{written}
 use Rattle.format.specs.Layout.{entry_size}
@@ -14,10 +13,10 @@ unfolding file_bytes head_bytes
 returns-in-File c =
     let bs = c.args.bytes.now in
     let at = c.args.at in
-    let o = fresh Directory c.args.parent.0 (name_of c.args.name.now) c.args.number.0 c.args.stamp in
+    let o = status_of c.args.status.now in
     then bs (head_bytes o) (contents_field []) at (at + 39)
     c.write_head.ensures
     (c.write_contents.ensures ∙ ap (λ m. written c.write_head.new.bytes (at + 39) (contents_field m)) c.empty.ensures)
     (omega (arith, length_head o))
     (omega (arith, length_contents [], ap entry_size c.in-File.is))
-    ∙ ap (λ k. written bs at (entry_bytes k (fresh k c.args.parent.0 (name_of c.args.name.now) c.args.number.0 c.args.stamp))) (sym c.in-File.is)
+    ∙ ap (λ k. written bs at (entry_bytes k (fresh k o.parent o.name o.number o.stamp))) (sym c.in-File.is)

@@ -1,6 +1,6 @@
 use Rattle.std.proofs.Common.{rules}
 use Rattle.format.specs.Fields.{word}
-use Rattle.image.proofs.field.word_at.Goals as goal
+use Rattle.image.proofs.field.number_in.Goals as goal
 
 pub returns : goal.returns
 unfolding word
