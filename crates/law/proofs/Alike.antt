@@ -1,11 +1,12 @@
 -- What does not read contents: checks, and the edit that a call asks for. Assumes nothing.
 --     Like l k     the objects l and k differ in contents alone
-use Rattle.std.proofs.Common.{◌≡◌, ℕ, zero, suc, Bool, true, false, cond, not, ◌||◌, eqb, List, [], ◌∷◌, ◌++◌, map, Some, None, Option, sym, refl, ap, ◌∙◌, ap₂}
+use Rattle.std.proofs.Common.{◌≡◌, ℕ, zero, suc, Bool, true, false, cond, not, ◌||◌, eqb, List, [], ◌∷◌, ◌++◌, map, Some, None, Option, sym, refl, ap, ◌∙◌, ap₂, rules, arith}
 use Rattle.std.specs.Option.{option_map}
+use Rattle.std.proofs.lemmas.Bool.Decides.{nat_tests}
 use Rattle.model.specs.Applying.{effect, stamped, stands}
-use Rattle.model.specs.Hoard.{Hoard, kept_in}
+use Rattle.model.specs.Hoard.{Hoard}
 use Rattle.model.specs.Loaders.{partly}
-use Rattle.model.specs.Office.{Call, bound, edit_of, make_directory, make_file, remove_directory, remove_file, rename_object, stamp_at, store_into}
+use Rattle.model.specs.Office.{Call, bound, edit_of, stamp_at}
 use Rattle.model.specs.Records.{Edit, create, mkdir, remove, rename, rmdir, store}
 use Rattle.tree.specs.Changes.{fresh, with_contents, with_place}
 use Rattle.tree.specs.Questions.{bare, child_of, climbs, has_child, is_dir, is_file, is_some, look, new_body, placed, taken}
@@ -27,11 +28,7 @@ at_bare x (o ∷ l) = go (at_bare x l) (is x o)
     go ih false = ih
 
 question : (q : Option Object → Bool) → ((o : Object) → q (Some (bare o)) ≡ q (Some o)) → (x : ℕ) (l : List Object) → q (at x (bared l)) ≡ q (at x l)
-question q k x l = ap q (at_bare x l) ∙ go (at x l)
-  where
-    go : (r : Option Object) → q (option_map bare r) ≡ q r
-    go None = refl
-    go (Some o) = k o
+question q k x l = grind (arith, nat_tests, at_bare)
 
 abbrev kind_body : Body → Body
 kind_body b = new_body (elim b [ dir ↦ Directory | file c ↦ File ])
@@ -75,22 +72,13 @@ module _ (l : List Object) where
       go ih (Some o) = ih o.parent
 
   tests_bare : (cap : ℕ) (e : Edit) → tests cap e (bared l) ≡ tests cap e l
-  tests_bare cap (mkdir x p n) = rw (dir_bare p, taken_bare p n, length_map bare l, some_bare x)
-  tests_bare cap (create x p n) = rw (dir_bare p, taken_bare p n, length_map bare l, some_bare x)
-  tests_bare cap (store x c t) = rw (file_bare x, stamped_bare t x)
-  tests_bare cap (remove x p n t) = rw (file_bare x, stands_bare p n x, stamped_bare t x, child_bare x)
-  tests_bare cap (rmdir x p n) = rw (dir_bare x, stands_bare p n x, child_bare x)
-  tests_bare cap (rename x p n q m) = rw (some_bare x, stands_bare p n x, dir_bare q, taken_bare q m, climbs_bare cap x q)
+  tests_bare cap e = search (rules, dir_bare, taken_bare, length_map, some_bare, file_bare, stamped_bare, stands_bare, child_bare, climbs_bare)
 
 abbrev on : List Object → Tree
 on l = record { capacity = 0; next = 0; objects = l }
 
 stamp_bare : (x : ℕ) (l : List Object) → stamp_at x (on (bared l)) ≡ stamp_at x (on l)
-stamp_bare x l = ap (λ (r : Option Object). let z : Stamp = elim r [ None ↦ record { author = 0; serial = 0 } | Some o ↦ o.stamp ] in z) (at_bare x l) ∙ go (at x l)
-  where
-    go : (r : Option Object) → ◌≡◌ {A = Stamp} (elim (option_map bare r) [ None ↦ record { author = 0; serial = 0 } | Some o ↦ o.stamp ]) (elim r [ None ↦ record { author = 0; serial = 0 } | Some o ↦ o.stamp ])
-    go None = refl
-    go (Some o) = refl
+stamp_bare x l = grind (arith, nat_tests, at_bare)
 
 look_bare : (p : ℕ) (n : List ℕ) (l : List Object) → look p n (bared l) ≡ look p n l
 look_bare p n [] = refl
@@ -100,20 +88,10 @@ bound_bare : (p : ℕ) (n : List ℕ) (l : List Object) → bound p n (on (bared
 bound_bare p n l = ap (λ (r : Option ℕ). let z : ℕ = elim r [ None ↦ 0 | Some x ↦ x ] in z) (look_bare p n l)
 
 edit_bare : (k : ℕ) (c : Call) (l : List Object) → edit_of k c (on (bared l)) ≡ edit_of k c (on l)
-edit_bare k (make_directory p n) l = refl
-edit_bare k (make_file p n) l = refl
-edit_bare k (store_into x c) l = ap (store x c) (stamp_bare x l)
-edit_bare k (remove_file p n) l = ap₂ (λ x t. remove x p n t) (bound_bare p n l) (stamp_bare (bound p n (on (bared l))) l ∙ ap (λ x. stamp_at x (on l)) (bound_bare p n l))
-edit_bare k (remove_directory p n) l = ap (λ x. rmdir x p n) (bound_bare p n l)
-edit_bare k (rename_object p n q m) l = ap (λ x. rename x p n q m) (bound_bare p n l)
+edit_bare k c l = search (rules, stamp_bare, bound_bare)
 
 edit_on : (k : ℕ) (c : Call) (t : Tree) → edit_of k c t ≡ edit_of k c (on t.objects)
-edit_on k (make_directory p n) t = refl
-edit_on k (make_file p n) t = refl
-edit_on k (store_into x c) t = refl
-edit_on k (remove_file p n) t = refl
-edit_on k (remove_directory p n) t = refl
-edit_on k (rename_object p n q m) t = refl
+edit_on k c t = search rules
 
 -- ---- effects
 
@@ -139,11 +117,7 @@ without_both x l = sym (keep_map (λ o. not (is x o)) bare (λ o. refl) l) ∙ a
 
 change_both : (x : ℕ) (g : Object → Object) → ((o : Object) → bare (g o) ≡ bare (g (bare o))) → (l : List Object) → bared (change x g l) ≡ bared (change x g (bared l))
 change_both x g k [] = refl
-change_both x g k (o ∷ l) = ap₂ (λ u v. u ∷ v) (go (is x o)) (change_both x g k l)
-  where
-    go : (b : Bool) → bare (cond b (g o) o) ≡ bare (cond b (g (bare o)) (bare o))
-    go true = k o
-    go false = sym (bare_twice o)
+change_both x g k (o ∷ l) = let ih = change_both x g k l in grind (arith, nat_tests, k o, bare_twice o)
 
 effect_both : (s : Stamp) (e : Edit) (l : List Object) → bared (effect s e l) ≡ bared (effect s e (bared l))
 effect_both s (mkdir x p n) l = insert_both (fresh Directory p n x s) l
@@ -169,8 +143,4 @@ like_effect s e l k h = effect_both s e l ∙ ap (λ z. bared (effect s e z)) h 
 
 pub like_partly : (h : Hoard) (l : List Object) → Like (map (partly h) l) l
 like_partly h [] = refl
-like_partly h (o ∷ l) = ap₂ (λ u v. u ∷ v) (go (kept_in h o.number)) (like_partly h l)
-  where
-    go : (b : Bool) → bare (cond b o (bare o)) ≡ bare o
-    go true = refl
-    go false = bare_twice o
+like_partly h (o ∷ l) = let ih = like_partly h l in grind (arith, nat_tests, bare_twice o)

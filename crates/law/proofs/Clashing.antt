@@ -1,13 +1,12 @@
 -- A conflict names the first record of the log that fails. Assumes nothing.
 use Rattle.std.proofs.Common.{◌≡◌, ℕ, ◌+◌, List, [], ◌∷◌, ◌++◌, Ok, Err, Result, sym, refl, ap, ◌∙◌, inl, inr, arith}
-use Rattle.model.specs.declared.answer.Answer.{Answer}
-use Rattle.model.specs.declared.answer.Answer.TheVariants.{Conflicting, Refused}
 use Rattle.model.specs.declared.answer.Fault.{Fault}
+use Rattle.model.specs.declared.answer.TurnError.TheVariants.{Conflicting, Refused}
 use Rattle.model.specs.Applying.{applied}
 use Rattle.model.specs.Loaders.{Loader, Spell, joins, log, settled_join}
 use Rattle.model.specs.Records.{Record, object}
 use Rattle.model.specs.Replaying.{Clash, Outcome, replayed, settled}
-use Rattle.model.specs.Worlds.{conflict_of, join_answer}
+use Rattle.model.specs.Worlds.{Answer, conflict_of, join_answer}
 use Rattle.tree.specs.Changes.{with_next}
 use Rattle.tree.specs.Trees.{Tree}
 use Rattle.vocab.specs.declared.refusal.Refusal.{Refusal}
@@ -50,15 +49,15 @@ names_first w a d s out k u c h = elim (join_ways s k u t d) [
     t : Tree
     t = w.server
 
-    said : join_answer (joins s k u t d).1 ≡ Conflicting c
+    said : join_answer (joins s k u t d).1 ≡ Err (Conflicting c)
     said = sym (ap (λ z. z.1) (join_step a w d s out k u)) ∙ h
 
-    refused : (f : Fault) → Refused f ≡ Conflicting c → ⊥
+    refused : (f : Fault) → ◌≡◌ {A = Answer} (Err (Refused f)) (Err (Conflicting c)) → ⊥
     refused f e = let z : ◌≡◌ {A = ℕ} 0 1 = cc in omega arith
 
-    go : (o : Outcome) → replayed t.next s.given (log s d) t ≡ o → told s t d o ≡ Conflicting c → (rs : List Record) × (r : Record) × (qs : List Record) × (v : Tree) × (log s d ≡ rs ++ (r ∷ qs)) × (replayed t.next s.given rs t ≡ Ok v) × ((applied (settled t.next s.given r) v).1 ≡ Err c.refusal) × (c.serial ≡ r.serial) × (c.object.0 ≡ object r.edit)
+    go : (o : Outcome) → replayed t.next s.given (log s d) t ≡ o → told s t d o ≡ Err (Conflicting c) → (rs : List Record) × (r : Record) × (qs : List Record) × (v : Tree) × (log s d ≡ rs ++ (r ∷ qs)) × (replayed t.next s.given rs t ≡ Ok v) × ((applied (settled t.next s.given r) v).1 ≡ Err c.refusal) × (c.serial ≡ r.serial) × (c.object ≡ object r.edit)
     go (Ok v) e g = let z : ◌≡◌ {A = ℕ} 0 1 = cc in absurd (omega arith)
     go (Err x) e g =
         let f = first_clash t.next s.given (log s d) t x e in
         let y : c ≡ conflict_of x = cc in
-        (f.0, f.1, f.2, f.3, f.4, f.5, f.6 ∙ ap (λ z. Err z.refusal) (sym y), ap (λ z. z.serial) y ∙ ap (λ q. q.serial) (sym f.7), ap (λ z. z.object.0) y ∙ ap (λ q. object q.edit) (sym f.7))
+        (f.0, f.1, f.2, f.3, f.4, f.5, f.6 ∙ ap (λ z. Err z.refusal) (sym y), ap (λ z. z.serial) y ∙ ap (λ q. q.serial) (sym f.7), ap (λ z. z.object) y ∙ ap (λ q. object q.edit) (sym f.7))

@@ -1,7 +1,8 @@
 -- A store moved behind records that neither store nor remove its file. Assumes nothing.
-use Rattle.std.proofs.Common.{◌≡◌, ℕ, zero, suc, ◌<◌, ◌≤◌, Bool, true, false, cond, not, ◌||◌, eqb, ltb, leb, List, [], ◌∷◌, ◌++◌, map, Some, None, Option, sym, refl, ap, ◌∙◌, subst, inl, inr, append-nil, arith}
+use Rattle.std.proofs.Common.{◌≡◌, ℕ, zero, suc, Bool, true, false, not, ◌||◌, eqb, ltb, List, [], ◌∷◌, map, Some, None, Option, sym, refl, ap, ◌∙◌, subst, rules, arith}
 use Rattle.std.specs.Option.{option_map}
-use Rattle.std.proofs.lemmas.Bool.{both_ways, or_parts, and_parts, eqb-true, eqb-false, ne_eqb, cases_lt, not-true}
+use Rattle.std.proofs.lemmas.Bool.{both_ways, or_parts, eqb-true, eqb-false, ne_eqb}
+use Rattle.tree.proofs.Ascending.{at_insert_other}
 use Rattle.std.proofs.lemmas.Bool.Decides.{nat_tests}
 use Rattle.model.specs.Applying.{effect, stamped, stands}
 use Rattle.model.specs.Records.{Edit, Record, create, mkdir, remove, removes, rename, rmdir, stamp_of, store, stores}
@@ -9,8 +10,8 @@ use Rattle.tree.specs.Changes.{fresh, with_contents, with_place}
 use Rattle.tree.specs.Questions.{child_of, climbs, has_child, is_dir, is_file, is_some, placed, taken}
 use Rattle.tree.specs.Trees.{Object, at, change, change_one, higher, insert, is, keep, lower, some_of}
 use Rattle.tree.proofs.Changed.{at_change, at_other, at_own, at_question, dir_file, file_some}
-use Rattle.tree.proofs.Lists.{keep_append, keep_keep, keep_map, length_map, map_append, some_map}
-use Rattle.tree.proofs.Objects.{at_without, change_number, keep_all, keep_none, without_change}
+use Rattle.tree.proofs.Lists.{keep_map, length_map, map_append, some_map}
+use Rattle.tree.proofs.Objects.{at_without, change_number, without_change}
 use Rattle.vocab.specs.declared.kind.Kind.TheVariants.{Directory, File}
 use Rattle.vocab.specs.declared.stamp.Stamp.{Stamp}
 use Rattle.vocab.specs.Checks.{Holds}
@@ -22,18 +23,10 @@ file_put s c None h = h
 file_put s c (Some o) h = refl
 
 parent_change : (f : ℕ) (s : Stamp) (c : List ℕ) (o : Object) → (change_one f (with_contents c s) o).parent ≡ o.parent
-parent_change f s c o = go (is f o)
-  where
-    go : (b : Bool) → (cond b (with_contents c s o) o).parent ≡ o.parent
-    go true = refl
-    go false = refl
+parent_change f s c o = grind (arith, nat_tests)
 
 placed_change : (p : ℕ) (n : List ℕ) (f : ℕ) (s : Stamp) (c : List ℕ) (o : Object) → placed p n (change_one f (with_contents c s) o) ≡ placed p n o
-placed_change p n f s c o = go (is f o)
-  where
-    go : (b : Bool) → placed p n (cond b (with_contents c s o) o) ≡ placed p n o
-    go true = refl
-    go false = refl
+placed_change p n f s c o = grind (arith, nat_tests)
 
 module _ (f : ℕ) (s : Stamp) (c : List ℕ) (l : List Object) where
   taken_put : (p : ℕ) (n : List ℕ) → taken p n (change f (with_contents c s) l) ≡ taken p n l
@@ -57,23 +50,14 @@ module _ (f : ℕ) (s : Stamp) (c : List ℕ) (l : List Object) where
   stands_put p n y = at_question f (with_contents c s) (λ o. refl) l (stands p n) (λ o. refl) y
 
   dir_put : is_file (at f l) ≡ true → (y : ℕ) → is_dir (at y (change f (with_contents c s) l)) ≡ is_dir (at y l)
-  dir_put here y = go (eqb y f) refl
-    where
-      go : (b : Bool) → eqb y f ≡ b → is_dir (at y (change f (with_contents c s) l)) ≡ is_dir (at y l)
-      go true e = rw (eqb-true y f e) (dir_file (at f (change f (with_contents c s) l)) (rw (at_own f (with_contents c s) (λ o. refl) l) (file_put s c (at f l) (file_some (at f l) here))) ∙ sym (dir_file (at f l) here))
-      go false e = ap is_dir (at_other f (with_contents c s) (λ o. refl) l y e)
+  dir_put here y = grind (arith, nat_tests, at_own, file_some, at_other)
 
   new_put : (cap : ℕ) → is_file (at f l) ≡ true → (y p : ℕ) (n : List ℕ) → tests cap (mkdir y p n) (change f (with_contents c s) l) ≡ tests cap (mkdir y p n) l
   new_put cap here y p n = rw (dir_put here p, taken_put p n, length_map (change_one f (with_contents c s)) l, some_put y)
 
   -- the checks are the same
   pub tests_put : (cap : ℕ) → is_file (at f l) ≡ true → (e : Edit) → stores f e ≡ false → removes f e ≡ false → tests cap e (change f (with_contents c s) l) ≡ tests cap e l
-  tests_put cap here (mkdir y p n) a b = new_put cap here y p n
-  tests_put cap here (create y p n) a b = new_put cap here y p n
-  tests_put cap here (store y d t) a b = rw (at_other f (with_contents c s) (λ o. refl) l y a)
-  tests_put cap here (remove y p n t) a b = rw (at_other f (with_contents c s) (λ o. refl) l y b, child_put y)
-  tests_put cap here (rmdir y p n) a b = rw (dir_put here y, stands_put p n y, child_put y)
-  tests_put cap here (rename y p n q m) a b = rw (some_put y, stands_put p n y, dir_put here q, taken_put q m, climbs_put cap y q)
+  tests_put cap here e a b = search (rules, new_put, at_other, child_put, dir_put, stands_put, some_put, taken_put, climbs_put)
 
 map_map : {X : Type 0} (g h : X → X) → ((x : X) → g (h x) ≡ h (g x)) → (l : List X) → map g (map h l) ≡ map h (map g l)
 map_map g h k [] = refl
@@ -93,14 +77,7 @@ one_true x g o e = rw e
 
 -- two changes that do not meet, or that do and agree
 change_change : (x y : ℕ) (g h : Object → Object) (gs : (o : Object) → (g o).number ≡ o.number) (hs : (o : Object) → (h o).number ≡ o.number) → ((o : Object) → is x o ≡ true → is y o ≡ true → g (h o) ≡ h (g o)) → (o : Object) → change_one x g (change_one y h o) ≡ change_one y h (change_one x g o)
-change_change x y g h gs hs k o = go (is x o) refl (is y o) refl
-  where
-    go : (a : Bool) → is x o ≡ a → (b : Bool) → is y o ≡ b → change_one x g (change_one y h o) ≡ change_one y h (change_one x g o)
-    go true e true f =
-        ap (change_one x g) (one_true y h o f) ∙ one_true x g (h o) (ap (λ n. eqb n x) (hs o) ∙ e) ∙ k o e f ∙ sym (ap (change_one y h) (one_true x g o e) ∙ one_true y h (g o) (ap (λ n. eqb n y) (gs o) ∙ f))
-    go true e false f = rw (f, e, gs o, f)
-    go false e true f = rw (f, e, hs o, e, f)
-    go false e false f = rw (f, e, f)
+change_change x y g h gs hs k o = grind (arith, nat_tests, k o, gs o, hs o)
 
 module _ (f : ℕ) (s t : Stamp) (c : List ℕ) (l : List Object) where
   pub effect_put : (e : Edit) → stores f e ≡ false → (births f e ≡ false) → effect t e (change f (with_contents c s) l) ≡ change f (with_contents c s) (effect t e l)
@@ -113,51 +90,11 @@ module _ (f : ℕ) (s t : Stamp) (c : List ℕ) (l : List Object) where
 
 -- a file that is there is not born
 pub unborn : (cap f : ℕ) (e : Edit) (l : List Object) → is_file (at f l) ≡ true → Holds (tests cap e l) → births f e ≡ false
-unborn cap f e l here h = go e h
-  where
-    new : (y p : ℕ) (n : List ℕ) → Holds (tests cap (mkdir y p n) l) → eqb y f ≡ false
-    new y p n h = case (eqb y f) refl
-      where
-        none : not (is_some (at y l)) ≡ true
-        none = (and_parts (leb 2 y) (not (is_some (at y l))) h.1.1.1.1.0).1
-
-        case : (b : Bool) → eqb y f ≡ b → eqb y f ≡ false
-        case true e = absurd (both_ways (is_some (at f l)) (subst (λ k. is_some (at k l) ≡ false) (eqb-true y f e) (not-true (is_some (at y l)) none)) (file_some (at f l) here))
-        case false e = e
-
-    go : (e : Edit) → Holds (tests cap e l) → births f e ≡ false
-    go (mkdir y p n) h = new y p n h
-    go (create y p n) h = new y p n h
-    go (store y d t) h = refl
-    go (remove y p n t) h = refl
-    go (rmdir y p n) h = refl
-    go (rename y p n q m) h = refl
-
-unfoldable pub first : List Object → Option Object
-first [] = None
-first (o ∷ l) = Some o
-
-pub at_first : (f : ℕ) (l : List Object) → at f l ≡ first (keep (is f) l)
-unfolding first
-at_first f [] = refl
-at_first f (o ∷ l) = go (at_first f l) (is f o)
-  where
-    go : at f l ≡ first (keep (is f) l) → (b : Bool) → cond b (Some o) (at f l) ≡ first (cond b (o ∷ keep (is f) l) (keep (is f) l))
-    go ih true = refl
-    go ih false = ih
+unborn cap f e l here h = grind (arith, nat_tests)
 
 -- one object more, of another number
 pub at_insert : (f : ℕ) (o : Object) (l : List Object) → is f o ≡ false → at f (insert o l) ≡ at f l
-at_insert f o l a = at_first f (insert o l) ∙ ap first (split ∙ elim (cases_lt f o.number) [ inl lt ↦ low lt | inr le ↦ high le ]) ∙ sym (at_first f l)
-  where
-    split : keep (is f) (insert o l) ≡ keep (lower o.number) (keep (is f) l) ++ keep (higher o.number) (keep (is f) l)
-    split = rw (keep_append (is f) (keep (lower o.number) l) (o ∷ keep (higher o.number) l), a, keep_keep (is f) (lower o.number) l, keep_keep (is f) (higher o.number) l)
-
-    low : f < o.number → keep (lower o.number) (keep (is f) l) ++ keep (higher o.number) (keep (is f) l) ≡ keep (is f) l
-    low lt = rw (keep_all (lower o.number) (is f) l (λ x e. grind (arith, nat_tests)), keep_none (higher o.number) (is f) l (λ x e. grind (arith, nat_tests))) (append-nil (keep (is f) l))
-
-    high : o.number ≤ f → keep (lower o.number) (keep (is f) l) ++ keep (higher o.number) (keep (is f) l) ≡ keep (is f) l
-    high le = rw (keep_none (lower o.number) (is f) l (λ x e. grind (arith, nat_tests)), keep_all (higher o.number) (is f) l (λ x e. grind (arith, nat_tests)))
+at_insert f o l a = at_insert_other o l f (eqb-false o.number f a)
 
 -- the file and its stamp stay
 module _ (cap f : ℕ) (s : Stamp) (l : List Object) (q : Option Object → Bool) (steady : (n : ℕ) (m : List ℕ) (o : Object) → q (Some (with_place n m o)) ≡ q (Some o)) where

@@ -1,14 +1,13 @@
 -- An edit away: the record that is made is the record that is listed. Assumes nothing.
-use Rattle.std.proofs.Common.{◌≡◌, ℕ, ◌+◌, ◌-◌, ◌^◌, true, ltb, leb, ◌⊎◌, List, [], ◌∷◌, ◌++◌, map, length, drop, Ok, Err, Result, sym, refl, ap, ◌∙◌, subst, ap₂, inl, inr}
+use Rattle.std.proofs.Common.{◌≡◌, ℕ, ◌+◌, ◌-◌, ◌^◌, ltb, leb, ◌⊎◌, List, [], ◌∷◌, ◌++◌, map, length, drop, Ok, Err, Result, sym, refl, ap, ◌∙◌, subst, ap₂, inl, inr, rules}
 use Rattle.std.proofs.lemmas.List.{take_at}
 use Rattle.model.specs.declared.answer.Fault.{Fault}
 use Rattle.model.specs.Applying.{all_checks, applied, effect}
 use Rattle.model.specs.Cancelling.{born, entered}
 use Rattle.model.specs.Loaders.{Loader, Spell as Stay, edited, guard, lent, log, log_checks, new_log, new_record, now_given, with_edit_done}
-use Rattle.model.specs.Office.{Call, edit_of, form_checks, make_directory, make_file, remove_directory, remove_file, rename_object, store_into}
+use Rattle.model.specs.Office.{Call, edit_of, form_checks}
 use Rattle.model.specs.Past.{Past, given, given_by, listed, shadow, walk_tree}
 use Rattle.model.specs.Records.{Record, object, stamp_of}
-use Rattle.model.specs.Worlds.{accepted, made_by}
 use Rattle.tree.specs.Questions.{bare}
 use Rattle.tree.specs.Trees.{Object, Tree, with_objects}
 use Rattle.vocab.specs.declared.layer.Layer.TheVariants.{Copy, Loader as LoaderLayer, Log}
@@ -29,20 +28,7 @@ holds_parts [] ds h = (tt, h)
 holds_parts (c ∷ cs) ds h = let k = holds_parts cs ds h.1 in ((h.0, k.0), k.1)
 
 numbered : (k : ℕ) (c : Call) (t : Tree) → Numbered k (edit_of (temporary + k) c t)
-numbered k (make_directory p n) t = refl
-numbered k (make_file p n) t = refl
-numbered k (store_into x c) t = tt
-numbered k (remove_file p n) t = tt
-numbered k (remove_directory p n) t = tt
-numbered k (rename_object p n q m) t = tt
-
-pub made_accepted : (c : Call) (x : ℕ) → accepted (made_by c x) ≡ true
-made_accepted (make_directory p n) x = refl
-made_accepted (make_file p n) x = refl
-made_accepted (store_into y c) x = refl
-made_accepted (remove_file p n) x = refl
-made_accepted (remove_directory p n) x = refl
-made_accepted (rename_object p n q m) x = refl
+numbered k c t = search rules
 
 module _ (s : Stay) (c : Call) (k : ℕ) (d : Loader) where
   abbrev copy_checks : List Check

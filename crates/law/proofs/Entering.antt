@@ -7,7 +7,7 @@
 --     Lone rs            each store of rs is alone in what follows
 --     expected x e rs    the stamp that the first store of x in rs expects, or e
 --     cancel t rs r      the log rs after r is entered, where t tells the numbers made in the spell
-use Rattle.std.proofs.Common.{◌≡◌, ℕ, Bool, false, cond, not, ◌&&◌, ◌||◌, eqb, List, [], ◌∷◌, ◌++◌, Some, None, Option, refl, ap}
+use Rattle.std.proofs.Common.{◌≡◌, ℕ, Bool, false, cond, not, ◌&&◌, ◌||◌, eqb, List, [], ◌∷◌, ◌++◌, Some, None, Option, refl, rules}
 use Rattle.model.specs.Cancelling.{born, entered, erase_object, erase_store, expecting, named_by_other, stored_before}
 use Rattle.model.specs.Records.{Edit, Record, create, mkdir, object, remove, removes, rename, rmdir, stamp_of, store, stores}
 use Rattle.tree.specs.Trees.{some_of}
@@ -75,12 +75,7 @@ expecting_remove x p n e None = refl
 expecting_remove x p n e (Some d) = refl
 
 entered_edits : (k : ℕ) (rs : List Record) (s : Stamp) (e : Edit) → entered k rs (rec s e) ≡ cancel_edit (born k) rs s e
-entered_edits k rs s (mkdir x p n) = refl
-entered_edits k rs s (create x p n) = refl
-entered_edits k rs s (store x c e) = ap (λ z. erase_store x rs ++ (rec s z ∷ [])) (expecting_store x c e (stored_before x rs))
-entered_edits k rs s (remove x p n e) = ap (λ z. cond (born k x) (erase_object x rs) (erase_store x rs ++ (rec s z ∷ []))) (expecting_remove x p n e (stored_before x rs))
-entered_edits k rs s (rmdir x p n) = refl
-entered_edits k rs s (rename x p n q m) = refl
+entered_edits k rs s e = search rules
 
 -- entering is such a cancelling
 pub entered_cancel : (k : ℕ) (rs : List Record) (r : Record) → entered k rs r ≡ cancel (born k) rs r

@@ -1,6 +1,7 @@
 -- The records of one object left out. Assumes nothing.
-use Rattle.std.proofs.Common.{◌≡◌, ℕ, Bool, true, false, cond, not, eqb, List, [], ◌∷◌, length, sym, refl, ap, ◌∙◌, subst, arith}
+use Rattle.std.proofs.Common.{◌≡◌, ℕ, Bool, true, false, cond, not, eqb, List, [], ◌∷◌, length, sym, refl, ap, ◌∙◌, subst, arith, rules}
 use Rattle.std.proofs.lemmas.Bool.{or_parts, or_from, eqb-true, ltb-true, lt-ltb, not-true, not_from_false}
+use Rattle.std.proofs.lemmas.Bool.Decides.{nat_tests}
 use Rattle.model.specs.Applying.{effect}
 use Rattle.model.specs.Cancelling.{erase_object}
 use Rattle.model.specs.Records.{Edit, Record, create, mkdir, object, remove, rename, rmdir, stamp_of, store}
@@ -32,12 +33,7 @@ module _ (cap x : ℕ) (l : List Object) where
   )
 
   pub holds_without : (e : Edit) → eqb (object e) x ≡ false → lands x e ≡ false → has_child x (without x l) ≡ false → Holds (tests cap e l) → Holds (tests cap e (without x l))
-  holds_without (mkdir y p n) a b c h = new_without y p n a b h
-  holds_without (create y p n) a b c h = new_without y p n a b h
-  holds_without (store y d s) a b c h = rw (at_without x y l a) h
-  holds_without (remove y p n s) a b c h = rw (at_without x y l a) (h.0, (h.1.0, (h.1.1.0, (free_without (child_of y) h.1.1.1.0, tt))))
-  holds_without (rmdir y p n) a b c h = rw (at_without x y l a) (h.0, (h.1.0, (free_without (child_of y) h.1.1.0, tt)))
-  holds_without (rename y p n q m) a b c h = rw (at_without x y l a, at_without x q l b, climbs_without cap x y q l c b) (h.0, (h.1.0, (h.1.1.0, (free_without (placed q m) h.1.1.1.0, h.1.1.1.1))))
+  holds_without e a b c h = search (rules, new_without, at_without, free_without, climbs_without)
 
 module _ (x : ℕ) (s : Stamp) where
   pub effect_without : (e : Edit) (l : List Object) → eqb (object e) x ≡ false → effect s e (without x l) ≡ without x (effect s e l)
@@ -70,11 +66,7 @@ module _ (x : ℕ) (s : Stamp) where
       (or_from (child_of x o) (some_of (child_of x) (keep (higher o.number) l)) a (some_keep (child_of x) (higher o.number) l h))
 
   leaf_change : (y : ℕ) (g : Object → Object) → ((o : Object) → eqb o.parent x ≡ false → eqb (g o).parent x ≡ false) → (o : Object) → child_of x o ≡ false → child_of x (change_one y g o) ≡ false
-  leaf_change y g k o h = go (is y o) refl
-    where
-      go : (b : Bool) → is y o ≡ b → eqb (change_one y g o).parent x ≡ false
-      go true e = rw e (k o h)
-      go false e = rw e h
+  leaf_change y g k o h = grind (arith, nat_tests, k o h, h)
 
   pub effect_leaf : (e : Edit) (l : List Object) → lands x e ≡ false → has_child x l ≡ false → has_child x (effect s e l) ≡ false
   effect_leaf (mkdir y p n) l a h = leaf_insert (fresh Directory p n y s) l a h

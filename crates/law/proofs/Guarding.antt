@@ -1,12 +1,11 @@
 -- Checks that guard a call, and calls by a loader's number and state. Assumes nothing.
 use Rattle.std.proofs.Common.{◌≡◌, ℕ, ◌+◌, Bool, true, false, leb, ◌⊎◌, List, [], ◌∷◌, Some, None, Err, Option, Result, refl, ap, ◌∙◌, inl, inr}
 use Rattle.std.proofs.lemmas.Bool.{cond-true, cond-false}
-use Rattle.model.specs.declared.answer.Answer.{Answer}
-use Rattle.model.specs.declared.answer.Answer.TheVariants.{NotAllowed}
 use Rattle.model.specs.declared.answer.Fault.{Fault}
+use Rattle.model.specs.declared.answer.TurnError.TheVariants.{NotAllowed}
 use Rattle.model.specs.Loaders.{Loader, Spell, State, away, guard, home, joins, log, log_checks, settled_join}
 use Rattle.model.specs.Replaying.{Clash, replay}
-use Rattle.model.specs.Worlds.{World, by_loader, join, join_answer, loader_of, put_loader, put_server, step, when_away}
+use Rattle.model.specs.Worlds.{Answer, World, by_loader, join, join_answer, loader_of, put_loader, put_server, step, when_away}
 use Rattle.tree.specs.Trees.{Tree}
 use Rattle.vocab.specs.declared.layer.Layer.{Layer}
 use Rattle.vocab.specs.declared.layer.Layer.TheVariants.{Loader as LoaderLayer, Log}
@@ -50,10 +49,10 @@ abbrev pub Does : Type 0
 Does = Loader → World × Answer
 
 pub by_found : (a : ℕ) (w : World) (d : Loader) (f : Does) → loader_of a w.loaders ≡ Some d → by_loader a w f ≡ f d
-by_found a w d f e = ap (λ (r : Option Loader). let z : World × Answer = elim r [ None ↦ (w, NotAllowed) | Some d ↦ f d ] in z) e
+by_found a w d f e = ap (λ (r : Option Loader). let z : World × Answer = elim r [ None ↦ (w, Err NotAllowed) | Some d ↦ f d ] in z) e
 
 pub away_found : (w : World) (d : Loader) (s : Spell) (f : Spell → World × Answer) → d.state ≡ away s → when_away w d f ≡ f s
-away_found w d s f e = ap (λ (r : State). let z : World × Answer = elim r [ home b ↦ (w, NotAllowed) | away s ↦ f s ] in z) e
+away_found w d s f e = ap (λ (r : State). let z : World × Answer = elim r [ home b ↦ (w, Err NotAllowed) | away s ↦ f s ] in z) e
 
 pub join_step : (a : ℕ) (w : World) (d : Loader) (s : Spell) → Away a w d s → (k u : ℕ) → step (join a k u) w ≡ joined_world w (joins s k u w.server d)
 join_step a w d s h k u = by_found a w d (λ d. when_away w d (λ s. joined_world w (joins s k u w.server d))) h.there ∙ away_found w d s (λ s. joined_world w (joins s k u w.server d)) h.out

@@ -1,12 +1,11 @@
 -- The guarantees of a join. Assumes nothing.
 use Rattle.std.proofs.Common.{◌≡◌, ℕ, ◌+◌, ◌≤◌, true, false, leb, List, Some, Ok, Err, sym, refl, ap, ◌∙◌, subst, inl, inr, arith}
 use Rattle.std.proofs.lemmas.Bool.{both_ways, le-leb}
-use Rattle.model.specs.declared.answer.Answer.{Answer}
-use Rattle.model.specs.declared.answer.Answer.TheVariants.{Records}
+use Rattle.model.specs.declared.answer.Reply.TheVariants.{Records}
 use Rattle.model.specs.Loaders.{Loader, Spell as Stay, comes_home, guard, joins, lent, log, log_checks, none_strange, settled_join}
 use Rattle.model.specs.Past.{Past, given_by, pasts}
 use Rattle.model.specs.Replaying.{Outcome, replay}
-use Rattle.model.specs.Worlds.{Turn, World, accepted, join, loader_of, put_loader, put_server, run, step}
+use Rattle.model.specs.Worlds.{Answer, Turn, World, accepted, join, loader_of, put_loader, put_server, run, step}
 use Rattle.tree.specs.Trees.{Tree}
 use Rattle.vocab.specs.declared.layer.Layer.TheVariants.{Loader as LoaderLayer, Log}
 use Rattle.vocab.specs.Limits.{temporary}
@@ -43,7 +42,7 @@ module _ (w : World) (start : Start w) (ts : List Turn) (a : ℕ) (d : Loader) (
   known : none_strange s.given (log s d) ≡ true
   known = ap (none_strange s.given) out.lies ∙ log_known out.from s.given out.top out.records out.sound.records
 
-  follows : (k u : ℕ) → s.count ≤ lent k d → s.count ≤ u → v.server.next + given_by p.list ≤ temporary → (t : Tree) → replay (given_by p.list) p.list v.server ≡ Ok t → step (join a k u) v ≡ (put_loader (comes_home d) (put_server t v), Records s.count)
+  follows : (k u : ℕ) → s.count ≤ lent k d → s.count ≤ u → v.server.next + given_by p.list ≤ temporary → (t : Tree) → replay (given_by p.list) p.list v.server ≡ Ok t → step (join a k u) v ≡ (put_loader (comes_home d) (put_server t v), Ok (Records s.count))
   follows k u lends suffices room t h =
       let same = out.given in
       let runs : replay s.given (log s d) v.server ≡ Ok t =

@@ -1,41 +1,27 @@
 -- Each file has one store at most. Assumes nothing.
-use Rattle.std.proofs.Common.{◌≡◌, ℕ, ◌≤◌, Bool, true, false, cond, not, ◌&&◌, ◌||◌, eqb, List, [], ◌∷◌, ◌++◌, map, sym, refl, ap, ◌∙◌, subst, ap₂}
+use Rattle.std.proofs.Common.{◌≡◌, ℕ, ◌≤◌, Bool, true, false, cond, not, ◌&&◌, eqb, List, [], ◌∷◌, ◌++◌, map, sym, refl, ap, ◌∙◌, subst, ap₂, rules}
 use Rattle.std.specs.List.{AllByRecursion}
-use Rattle.std.proofs.lemmas.Bool.{both_ways, or_parts, or_from, eqb-true, eqb-false, ne_eqb, cond_both}
+use Rattle.std.proofs.ByRecursion.{All-weaker}
+use Rattle.std.proofs.lemmas.Bool.{or_parts, or_from, eqb-false, ne_eqb, cond_both, not-true}
 use Rattle.vocab.specs.Limits.{temporary}
-use Rattle.model.specs.Cancelling.{erase_object, erase_store, named_by_other}
-use Rattle.model.specs.Records.{Edit, Record, create, mkdir, object, remove, removes, rename, rmdir, stamp_of, store, stores}
+use Rattle.model.specs.Cancelling.{erase_store}
+use Rattle.model.specs.Records.{Edit, Record, create, mkdir, remove, removes, rename, rmdir, stamp_of, store, stores}
 use Rattle.model.specs.Replaying.{settle, settled, settled_edit}
 use Rattle.tree.specs.Trees.{keep, some_of}
 use Rattle.tree.proofs.Lists.{keep_same, some_append, some_keep, some_weaker}
 use Rattle.vocab.specs.declared.stamp.Stamp.{Stamp}
-use Rattle.law.proofs.Entering.{Alone, Lone, cancel, expected, lands, lands_other, touches}
+use Rattle.law.proofs.Entering.{Alone, Lone, cancel, lands, lands_other, touches}
 use Rattle.law.proofs.Runs.{rec}
-use Rattle.law.proofs.Settle.{Known, Knows, all_weaker, object_settled, settle_eq, some_map_all}
+use Rattle.law.proofs.Settle.{Known, Knows, object_settled, some_map_all}
 
 alone_keep : (p : Record → Bool) (e : Edit) (rs : List Record) → Alone e rs → Alone e (keep p rs)
-alone_keep p (mkdir x q n) rs a = a
-alone_keep p (create x q n) rs a = a
-alone_keep p (store x c e) rs a = some_keep (touches x) p rs a
-alone_keep p (remove x q n e) rs a = a
-alone_keep p (rmdir x q n) rs a = a
-alone_keep p (rename x q n r m) rs a = a
+alone_keep p e rs a = search (rules, some_keep)
 
 pub lone_keep : (p : Record → Bool) (rs : List Record) → Lone rs → Lone (keep p rs)
 lone_keep p [] a = tt
-lone_keep p (r ∷ rs) a = go (lone_keep p rs a.1) (p r)
-  where
-    go : Lone (keep p rs) → (b : Bool) → Lone (cond b (r ∷ keep p rs) (keep p rs))
-    go ih true = (alone_keep p r.edit rs a.0, ih)
-    go ih false = ih
-
-pub all_keep : {X : Type 0} (P : X → Type 0) (p : X → Bool) (l : List X) → AllByRecursion P l → AllByRecursion P (keep p l)
-all_keep P p [] h = tt
-all_keep P p (x ∷ l) h = go (all_keep P p l h.1) (p x)
-  where
-    go : AllByRecursion P (keep p l) → (b : Bool) → AllByRecursion P (cond b (x ∷ keep p l) (keep p l))
-    go ih true = (h.0, ih)
-    go ih false = ih
+lone_keep p (r ∷ rs) a =
+    let ih = lone_keep p rs a.1 in
+    cond_both (p r) (r ∷ keep p rs) (keep p rs) Lone (λ _. (alone_keep p r.edit rs a.0, ih)) (λ _. ih)
 
 -- what holds of each record, or of none, does without a store
 pub all_erase : (P : Record → Type 0) (x : ℕ) (rs : List Record) → AllByRecursion P rs → AllByRecursion P (erase_store x rs)
@@ -48,10 +34,6 @@ some_erase p x (r ∷ rs) h =
     let k = or_parts (p r) (some_of p rs) h in
     cond_both (stores x r.edit) rs (r ∷ erase_store x rs) (λ z. some_of p z ≡ false) (λ _. k.1) (λ _. or_from (p r) (some_of p (erase_store x rs)) k.0 (some_erase p x rs k.1))
 
-pub all_push : {X : Type 0} (P : X → Type 0) (l : List X) (x : X) → AllByRecursion P l → P x → AllByRecursion P (l ++ (x ∷ []))
-all_push P [] x h k = (k, tt)
-all_push P (y ∷ l) x h k = (h.0, all_push P l x h.1 k)
-
 -- the store e, if it is one, is of a file that r does not touch
 abbrev Off : Record → Edit → Type 0
 Off r (mkdir x p n) = Unit {0}
@@ -62,20 +44,10 @@ Off r (rmdir x p n) = Unit {0}
 Off r (rename x p n q m) = Unit {0}
 
 alone_push : (e : Edit) (rs : List Record) (r : Record) → Alone e rs → Off r e → Alone e (rs ++ (r ∷ []))
-alone_push (mkdir x p n) rs r a k = tt
-alone_push (create x p n) rs r a k = tt
-alone_push (store x c e) rs r a k = some_append (touches x) rs (r ∷ []) a (or_from (touches x r) false k refl)
-alone_push (remove x p n e) rs r a k = tt
-alone_push (rmdir x p n) rs r a k = tt
-alone_push (rename x p n q m) rs r a k = tt
+alone_push e rs r a k = search (rules, some_append, or_from)
 
 alone_none : (e : Edit) → Alone e []
-alone_none (mkdir x p n) = tt
-alone_none (create x p n) = tt
-alone_none (store x c e) = refl
-alone_none (remove x p n e) = tt
-alone_none (rmdir x p n) = tt
-alone_none (rename x p n q m) = tt
+alone_none e = search rules
 
 lone_push : (rs : List Record) (r : Record) → Lone rs → AllByRecursion (λ q. Off r q.edit) rs → Lone (rs ++ (r ∷ []))
 lone_push [] r a k = (alone_none r.edit, tt)
@@ -83,12 +55,7 @@ lone_push (q ∷ rs) r a k = (alone_push q.edit rs r a.0 k.0, lone_push rs r a.1
 
 -- a record that neither stores nor removes
 off_plain : (r : Record) → ((x : ℕ) → touches x r ≡ false) → (e : Edit) → Off r e
-off_plain r k (mkdir x p n) = tt
-off_plain r k (create x p n) = tt
-off_plain r k (store x c e) = k x
-off_plain r k (remove x p n e) = tt
-off_plain r k (rmdir x p n) = tt
-off_plain r k (rename x p n q m) = tt
+off_plain r k e = search rules
 
 all_any : {X : Type 0} (P : X → Type 0) → ((x : X) → P x) → (l : List X) → AllByRecursion P l
 all_any P k [] = tt
@@ -102,12 +69,7 @@ abbrev unstored : ℕ → List Record → List Record
 unstored x rs = keep (λ r. not (stores x r.edit)) rs
 
 alone_stores : (x : ℕ) (e : Edit) (rs : List Record) → Alone e rs → stores x e ≡ true → some_of (touches x) rs ≡ false
-alone_stores x (mkdir y p n) rs a h = absurd (both_ways false refl h)
-alone_stores x (create y p n) rs a h = absurd (both_ways false refl h)
-alone_stores x (store y c e) rs a h = subst (λ z. some_of (touches z) rs ≡ false) (eqb-true y x h) a
-alone_stores x (remove y p n e) rs a h = absurd (both_ways false refl h)
-alone_stores x (rmdir y p n) rs a h = absurd (both_ways false refl h)
-alone_stores x (rename y p n q m) rs a h = absurd (both_ways false refl h)
+alone_stores x e rs a h = search rules
 
 erase_all : (x : ℕ) (rs : List Record) → Lone rs → erase_store x rs ≡ unstored x rs
 erase_all x [] a = refl
@@ -119,20 +81,13 @@ erase_all x (r ∷ rs) a = go (erase_all x rs a.1) (stores x r.edit) refl
 
 -- the other records, where those that store x are out
 off_unstored : (x : ℕ) (r : Record) → ((y : ℕ) → eqb y x ≡ false → touches y r ≡ false) → (e : Edit) → stores x e ≡ false → Off r e
-off_unstored x r k (mkdir y p n) h = tt
-off_unstored x r k (create y p n) h = tt
-off_unstored x r k (store y c e) h = k y h
-off_unstored x r k (remove y p n e) h = tt
-off_unstored x r k (rmdir y p n) h = tt
-off_unstored x r k (rename y p n q m) h = tt
+off_unstored x r k e h = search rules
 
 all_unstored : (x : ℕ) (r : Record) → ((y : ℕ) → eqb y x ≡ false → touches y r ≡ false) → (rs : List Record) → AllByRecursion (λ q. Off r q.edit) (unstored x rs)
 all_unstored x r k [] = tt
-all_unstored x r k (q ∷ rs) = go (all_unstored x r k rs) (stores x q.edit) refl
-  where
-    go : AllByRecursion (λ q. Off r q.edit) (unstored x rs) → (b : Bool) → stores x q.edit ≡ b → AllByRecursion (λ q. Off r q.edit) (cond (not (stores x q.edit)) (q ∷ unstored x rs) (unstored x rs))
-    go ih true e = rw e ih
-    go ih false e = rw e (off_unstored x r k q.edit e, ih)
+all_unstored x r k (q ∷ rs) =
+    let ih = all_unstored x r k rs in
+    cond_both (not (stores x q.edit)) (q ∷ unstored x rs) (unstored x rs) (AllByRecursion (λ q. Off r q.edit)) (λ e. (off_unstored x r k q.edit (not-true (stores x q.edit) e), ih)) (λ _. ih)
 
 unstored_push : (x : ℕ) (rs : List Record) (r : Record) → ((y : ℕ) → eqb y x ≡ false → touches y r ≡ false) → Lone rs → Lone (unstored x rs ++ (r ∷ []))
 unstored_push x rs r k a = lone_push (unstored x rs) r (lone_keep (λ q. not (stores x q.edit)) rs a) (all_unstored x r k rs)
@@ -140,52 +95,29 @@ unstored_push x rs r k a = lone_push (unstored x rs) r (lone_keep (λ q. not (st
 erased_push : (x : ℕ) (rs : List Record) (r : Record) → ((y : ℕ) → eqb y x ≡ false → touches y r ≡ false) → Lone rs → Lone (erase_store x rs ++ (r ∷ []))
 erased_push x rs r k a = subst (λ z. Lone (z ++ (r ∷ []))) (sym (erase_all x rs a)) (unstored_push x rs r k a)
 
-flip : (x y : ℕ) → eqb y x ≡ false → eqb x y ≡ false
+pub flip : (x y : ℕ) → eqb y x ≡ false → eqb x y ≡ false
 flip x y h = ne_eqb x y (λ e. eqb-false y x h (sym e))
 
 lone_cancel_edit : (t : ℕ → Bool) (rs : List Record) (s : Stamp) (e : Edit) → Lone rs → Lone (cancel t rs (rec s e))
-lone_cancel_edit t rs s (mkdir x p n) a = plain_push rs (rec s (mkdir x p n)) (λ y. refl) a
-lone_cancel_edit t rs s (create x p n) a = plain_push rs (rec s (create x p n)) (λ y. refl) a
-lone_cancel_edit t rs s (store x c e) a = erased_push x rs (rec s (store x c (expected x e rs))) (λ y h. or_from (eqb x y) false (flip x y h) refl) a
-lone_cancel_edit t rs s (remove x p n e) a = go (t x)
-  where
-    go : (b : Bool) → Lone (cond b (erase_object x rs) (erase_store x rs ++ (rec s (remove x p n (expected x e rs)) ∷ [])))
-    go true = lone_keep (λ r. not (eqb (object r.edit) x)) rs a
-    go false = erased_push x rs (rec s (remove x p n (expected x e rs))) (λ y h. flip x y h) a
-lone_cancel_edit t rs s (rmdir x p n) a = go (t x && not (named_by_other x rs))
-  where
-    go : (b : Bool) → Lone (cond b (erase_object x rs) (rs ++ (rec s (rmdir x p n) ∷ [])))
-    go true = lone_keep (λ r. not (eqb (object r.edit) x)) rs a
-    go false = plain_push rs (rec s (rmdir x p n)) (λ y. refl) a
-lone_cancel_edit t rs s (rename x p n q m) a = plain_push rs (rec s (rename x p n q m)) (λ y. refl) a
+lone_cancel_edit t rs s e a = search (rules, plain_push, erased_push, or_from, flip, lone_keep)
 
 pub lone_cancel : (t : ℕ → Bool) (rs : List Record) (r : Record) → Lone rs → Lone (cancel t rs r)
 lone_cancel t rs r a = lone_cancel_edit t rs (stamp_of r) r.edit a
 
 module _ (m n b N : ℕ) (mb : m ≤ b) (bt : b ≤ temporary) (more : n ≤ N) where
   touches_settled : (x : ℕ) → Known m n x → (s : Stamp) (e : Edit) → Knows m n e → touches (settle b N x) (rec s (settled_edit b N e)) ≡ touches x (rec s e)
-  touches_settled x k s (mkdir y p o) h = refl
-  touches_settled x k s (create y p o) h = refl
-  touches_settled x k s (store y c t) h = ap (λ u. u || false) (settle_eq m n b N mb bt more y x h.0 k)
-  touches_settled x k s (remove y p o t) h = settle_eq m n b N mb bt more y x h.0 k
-  touches_settled x k s (rmdir y p o) h = refl
-  touches_settled x k s (rename y p o q r) h = refl
+  touches_settled x k s e h = search rules
 
   lands_settled : (x : ℕ) → Known m n x → (e : Edit) → Knows m n e → lands (settle b N x) (settled_edit b N e) ≡ lands x e
-  lands_settled x k (mkdir y p o) h = settle_eq m n b N mb bt more p x h.1 k
-  lands_settled x k (create y p o) h = settle_eq m n b N mb bt more p x h.1 k
-  lands_settled x k (store y c t) h = refl
-  lands_settled x k (remove y p o t) h = refl
-  lands_settled x k (rmdir y p o) h = refl
-  lands_settled x k (rename y p o q r) h = settle_eq m n b N mb bt more q x h.2 k
+  lands_settled x k e h = search rules
 
   pub landings_settled : (x : ℕ) → Known m n x → (rs : List Record) → AllByRecursion (λ r. Knows m n r.edit) rs → some_of (lands_other (settle b N x)) (map (settled b N) rs) ≡ some_of (lands_other x) rs
-  landings_settled x k rs h = some_map_all (lands_other (settle b N x)) (lands_other x) (settled b N) rs (all_weaker (λ r. Knows m n r.edit) _ (λ r g. ap₂ (λ u v. not u && v) (object_settled m n b N mb bt more x k r.edit g) (lands_settled x k r.edit g)) rs h)
+  landings_settled x k rs h = some_map_all (lands_other (settle b N x)) (lands_other x) (settled b N) rs (All-weaker (λ r. Knows m n r.edit) _ (λ r g. ap₂ (λ u v. not u && v) (object_settled m n b N mb bt more x k r.edit g) (lands_settled x k r.edit g)) rs h)
 
   alone_settled : (e : Edit) (rs : List Record) → Knows m n e → AllByRecursion (λ r. Knows m n r.edit) rs → Alone e rs → Alone (settled_edit b N e) (map (settled b N) rs)
   alone_settled (mkdir x p o) rs k h a = tt
   alone_settled (create x p o) rs k h a = tt
-  alone_settled (store x c e) rs k h a = some_map_all (touches (settle b N x)) (touches x) (settled b N) rs (all_weaker (λ r. Knows m n r.edit) _ (λ r g. touches_settled x k.0 (stamp_of r) r.edit g) rs h) ∙ a
+  alone_settled (store x c e) rs k h a = some_map_all (touches (settle b N x)) (touches x) (settled b N) rs (All-weaker (λ r. Knows m n r.edit) _ (λ r g. touches_settled x k.0 (stamp_of r) r.edit g) rs h) ∙ a
   alone_settled (remove x p o e) rs k h a = tt
   alone_settled (rmdir x p o) rs k h a = tt
   alone_settled (rename x p o q r) rs k h a = tt

@@ -1,14 +1,14 @@
 -- A log passes where all that its spell recorded does, and leaves the same. Assumes nothing.
-use Rattle.std.proofs.Common.{◌≡◌, ℕ, suc, ◌+◌, ◌<◌, ◌≤◌, leb, List, [], ◌∷◌, ◌++◌, Ok, Err, sym, refl, ap, ◌∙◌, subst, inl, append_assoc, append-nil, arith}
+use Rattle.std.proofs.Common.{◌≡◌, ℕ, suc, ◌+◌, ◌<◌, ◌≤◌, leb, List, [], ◌∷◌, ◌++◌, Ok, sym, refl, subst, inl, append_assoc, append-nil, arith}
 use Rattle.std.specs.List.{AllByRecursion}
 use Rattle.std.proofs.lemmas.Bool.{or_from, lt-leb}
 use Rattle.vocab.specs.Limits.{temporary}
+use Rattle.std.proofs.lemmas.Bool.Decides.{nat_tests}
 use Rattle.model.specs.Applying.{applied, effect}
 use Rattle.model.specs.Cancelling.{entered}
 use Rattle.model.specs.Records.{Record, stamp_of}
-use Rattle.model.specs.Replaying.{Outcome, replay, replayed}
-use Rattle.tree.specs.Changes.{with_next}
-use Rattle.tree.specs.Trees.{Ascends, Object, Tree, some_of, with_objects}
+use Rattle.model.specs.Replaying.{replay}
+use Rattle.tree.specs.Trees.{Ascends, Object, Tree, some_of}
 use Rattle.tree.proofs.Ascending.{split_ascends}
 use Rattle.model.specs.Past.{given, given_by}
 use Rattle.law.specs.Spells.{Spell, Under, logged}
@@ -44,15 +44,7 @@ module _ (m : ℕ) (two : 1 < m) (mt : m ≤ temporary) where
       (rest.0, subst (λ z. Sound m (us ++ (r ∷ vs)) (logged n rs (r ∷ vs)) rest.0 z) e (subst (λ z. Sound m z (logged n rs (r ∷ vs)) rest.0 (k + given_by vs)) (append_assoc us (r ∷ []) vs) rest.1))
 
 pub sound_replay : (m : ℕ) (us rs : List Record) (l : List Object) (n : ℕ) → Sound m us rs l n → (t : Tree) → Under t.next t.objects → m ≤ t.next → t.next ≤ temporary → (u : Tree) → replay n us t ≡ Ok u → replay n rs t ≡ Ok u
-sound_replay m us rs l n sound t here mb bt u h = go (replayed t.next n us t) refl h
-  where
-    go : (o : Outcome) → replayed t.next n us t ≡ o → ◌≡◌ {A = Outcome} (elim o [ Ok w ↦ Ok (with_next w (t.next + n)) | Err c ↦ Err c ]) (Ok u) → replay n rs t ≡ Ok u
-    go (Ok w) e g =
-        let run = run_passes t.next n us t w e in
-        let same = sound.agree t.capacity t.next n t.objects mb bt (omega arith) (split_ascends 2 t.objects here.ascending) (below_under t.next t.objects here.below) run.0 in
-        let runs : replayed t.next n rs t ≡ Ok w = passes_run t.next n rs t same.0 ∙ ap (λ z. Ok (with_objects t z)) same.1 ∙ ap Ok (sym run.1) in
-        rw (runs, replay) g
-    go (Err c) e g = let z : ◌≡◌ {A = ℕ} 0 1 = cc in absurd (omega arith)
+sound_replay m us rs l n sound t here mb bt u h = grind (arith, nat_tests, run_passes, split_ascends, below_under, passes_run)
 
 pub nothing_lost : CancellingLosesNothing
 nothing_lost m two copy under us spell t here mb bt u h =

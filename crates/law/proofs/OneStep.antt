@@ -1,13 +1,13 @@
 -- A record more, with what it cancels, leaves the same objects. Assumes nothing.
-use Rattle.std.proofs.Common.{◌≡◌, ℕ, ◌≤◌, Bool, true, false, cond, not, ◌&&◌, ◌||◌, eqb, leb, ◌⊎◌, List, [], ◌∷◌, ◌++◌, sym, refl, ap, ◌∙◌, subst, inl, inr, arith}
-use Rattle.std.proofs.lemmas.Bool.{or_parts, and_parts, and_left, and_right, and_cases, eqb-true, leb-true, not-true}
+use Rattle.std.proofs.Common.{◌≡◌, ℕ, ◌≤◌, Bool, true, false, cond, not, ◌&&◌, ◌||◌, eqb, leb, ◌⊎◌, List, [], ◌∷◌, ◌++◌, sym, refl, ap, ◌∙◌, subst, inl, inr, arith, rules}
+use Rattle.std.proofs.lemmas.Bool.{or_parts, and_parts, eqb-true, leb-true, not-true}
 use Rattle.std.proofs.lemmas.Bool.Decides.{nat_tests}
 use Rattle.model.specs.Applying.{effect, stamped}
 use Rattle.model.specs.Cancelling.{erase_object, erase_store, named_by_other}
 use Rattle.model.specs.Records.{Edit, Record, create, mkdir, names, object, remove, rename, rmdir, stamp_of, store}
 use Rattle.tree.specs.Changes.{with_contents}
 use Rattle.tree.specs.Questions.{child_of, has_child, is_file}
-use Rattle.tree.specs.Trees.{Object, at, change, change_one, is, some_of, without}
+use Rattle.tree.specs.Trees.{Object, at, change, is, some_of, without}
 use Rattle.tree.proofs.Lists.{keep_same, some_weaker}
 use Rattle.tree.proofs.Objects.{Split, without_own_change}
 use Rattle.vocab.specs.declared.stamp.Stamp.{Stamp}
@@ -64,11 +64,7 @@ final_push (q ∷ rs) r l = final_push rs r (effect (stamp_of q) q.edit l)
 
 over_put : (f : ℕ) (s t : Stamp) (c d : List ℕ) (l : List Object) → change f (with_contents d t) (change f (with_contents c s) l) ≡ change f (with_contents d t) l
 over_put f s t c d [] = refl
-over_put f s t c d (o ∷ l) = go (over_put f s t c d l) (is f o) refl
-  where
-    go : change f (with_contents d t) (change f (with_contents c s) l) ≡ change f (with_contents d t) l → (b : Bool) → is f o ≡ b → change_one f (with_contents d t) (change_one f (with_contents c s) o) ∷ change f (with_contents d t) (change f (with_contents c s) l) ≡ change_one f (with_contents d t) o ∷ change f (with_contents d t) l
-    go ih true e = rw (e, e, ih)
-    go ih false e = rw (e, e, ih)
+over_put f s t c d (o ∷ l) = let ih = over_put f s t c d l in grind (arith, nat_tests)
 
 -- us pass and leave what rs leave
 abbrev pub Alike : ℕ → List Object → List Record → List Record → Type 0
@@ -118,19 +114,10 @@ childless : (b x : ℕ) (l : List Object) → Below b l → b ≤ x → has_chil
 childless b x l k le = some_weaker (from b) (child_of x) (λ o e. grind (arith, nat_tests, or_parts (leb b o.number) (leb b o.parent) e)) l k
 
 lands_names : (x : ℕ) (e : Edit) → names x e ≡ false → lands x e ≡ false
-lands_names x (mkdir y p n) h = h
-lands_names x (create y p n) h = h
-lands_names x (store y c t) h = refl
-lands_names x (remove y p n t) h = refl
-lands_names x (rmdir y p n) h = refl
-lands_names x (rename y p n q m) h = (or_parts (eqb p x) (eqb q x) h).1
+lands_names x e h = search rules
 
 weaken : (x : ℕ) (r : Record) → (not (eqb (object r.edit) x) && names x r.edit) ≡ false → lands_other x r ≡ false
-weaken x r h = go (and_cases (not (eqb (object r.edit) x)) (names x r.edit) h)
-  where
-    go : (not (eqb (object r.edit) x) ≡ false) ⊎ (names x r.edit ≡ false) → lands_other x r ≡ false
-    go (inl k) = and_left (not (eqb (object r.edit) x)) (lands x r.edit) k
-    go (inr k) = and_right (not (eqb (object r.edit) x)) (lands x r.edit) (lands_names x r.edit k)
+weaken x r h = grind (arith, nat_tests)
 
 -- a file that the record removes has nothing put under it
 abbrev pub Bare : ℕ → List Record → Edit → Type 0

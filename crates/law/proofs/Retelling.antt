@@ -1,10 +1,13 @@
 -- Every turn keeps what the loaders know of the server's stamps. Assumes nothing.
-use Rattle.std.proofs.Common.{◌≡◌, ℕ, ◌+◌, ◌<◌, ◌≤◌, Bool, true, false, not, ◌&&◌, ◌||◌, eqb, leb, ◌⊎◌, List, [], ◌∷◌, ◌++◌, length, take, drop, Some, None, Ok, Err, Option, Result, sym, refl, ap, ◌∙◌, subst, ap₂, inl, inr, arith}
+use Rattle.std.proofs.Common.{◌≡◌, ℕ, ◌+◌, ◌<◌, ◌≤◌, Bool, true, false, not, ◌&&◌, ◌||◌, eqb, leb, ◌⊎◌, List, [], ◌∷◌, ◌++◌, length, take, drop, Some, None, Ok, Err, Option, Result, sym, refl, ap, ◌∙◌, subst, ap₂, inl, inr, arith, rules}
 use Rattle.std.specs.List.{AllByRecursion}
+use Rattle.std.proofs.ByRecursion.{All-push, All-weaker}
 use Rattle.std.proofs.lemmas.List.{take_at}
-use Rattle.std.proofs.lemmas.Bool.{both_ways, ne_eqb, leb-true, cond-true, cond_both}
-use Rattle.model.specs.declared.answer.Answer.{Answer}
+use Rattle.std.proofs.lemmas.Bool.{both_ways, leb-true, cond_both}
+use Rattle.std.proofs.lemmas.Option.{none-some}
+use Rattle.model.proofs.Each.{all_keep}
 use Rattle.model.specs.declared.answer.Fault.{Fault}
+use Rattle.model.specs.declared.answer.Reply.TheVariants.{Done}
 use Rattle.model.specs.Applying.{applied, effect}
 use Rattle.model.specs.Cancelling.{born, erase_store, named_by_other}
 use Rattle.model.specs.Hoard.{Hoard, kept_in, ranked}
@@ -13,8 +16,8 @@ use Rattle.model.specs.Office.{Call, bound, call_checks, called, called_tree, ma
 use Rattle.model.specs.Past.{Past, Pasts, capacity_of, listed, new_past, past_after, pasts, put_past, shadow}
 use Rattle.model.specs.Records.{Edit, Record, create, mkdir, object, remove, rename, rmdir, stamp_of, store}
 use Rattle.model.specs.Replaying.{Clash, Outcome, replay}
-use Rattle.model.specs.Worlds.{Turn, World, accepted, done_answer, edit, edit_answer, join, leave, loader_of, made_by, office, office_read, own_stamp, put_loader, put_server, quit, rank, read, read_done, reads_away, reads_home, run, step, walk, with_hoard, with_loader}
-use Rattle.model.proofs.Serving.{first_keeps}
+use Rattle.model.specs.Worlds.{Answer, Turn, World, call_answer, edit, join, leave, loader_of, made_by, office, office_read, own_stamp, put_loader, put_server, quit, rank, read, read_done, reads_away, reads_home, run, step, walk, with_hoard, with_loader}
+use Rattle.model.proofs.Serving.{first_keeps, raised_keeps}
 use Rattle.tree.specs.Changes.{with_place}
 use Rattle.tree.specs.Questions.{held, is_file}
 use Rattle.tree.specs.Trees.{Tree, at, is, with_objects}
@@ -26,58 +29,42 @@ use Rattle.vocab.specs.Limits.{temporary}
 use Rattle.law.specs.Guarantees.{Start, new_pasts}
 use Rattle.law.specs.Spells.{Numbered}
 use Rattle.law.proofs.Awaiting.{awaited, awaited_cancel, awaited_push, awaits, sooner}
-use Rattle.law.proofs.Editing.{edit_ways, listed_passes, made_accepted, num, same_edit, shadow_now}
+use Rattle.law.proofs.Editing.{edit_ways, listed_passes, num, same_edit, shadow_now}
 use Rattle.law.proofs.Entering.{Lone, births, cancel, entered_cancel, expected}
 use Rattle.law.proofs.Finding.{by_keeps, found, state_keeps}
 use Rattle.law.proofs.Guarding.{guard_ways, join_ways, joined_world}
 use Rattle.law.proofs.Knowing.{all_change}
 use Rattle.law.proofs.Landing.{Free, all_cancel}
-use Rattle.law.proofs.Lonely.{all_erase, all_keep, all_push}
+use Rattle.law.proofs.Lonely.{all_erase}
 use Rattle.law.proofs.Runs.{in_order, passed, rec, tests}
 use Rattle.law.proofs.Sane.{Fit, In, Out, Sane, guard_keeps, own}
-use Rattle.law.proofs.Settle.{all_weaker}
-use Rattle.law.proofs.Stamping.{Agree, Has, Late, Spans, Used, agree_effect, agree_replay, agree_same, back, finds, never, replay_passes, unawaited, used_effect, used_replay}
-use Rattle.law.proofs.Standing.{raised_keeps, replay_stands}
+use Rattle.law.proofs.Stamping.{Agree, Has, Late, Spans, Used, agree_effect, agree_replay, agree_same, back, finds, replay_passes, unawaited, used_effect, used_replay}
+use Rattle.law.proofs.Standing.{replay_stands}
 use Rattle.law.proofs.Telling.{Gone, Old, Saw, Tells, Told, ToldIn, grow, grows, level, put_here, put_own, put_past_here, put_told, told_later}
 use Rattle.law.proofs.Turning.{sane_run, step_sane}
 
 -- ---- one record more
 
 each_cancel : (Q : Record → Type 0) (t : ℕ → Bool) (rs : List Record) (s : Stamp) (e : Edit) → ((e : Edit) → Q (rec s e)) → AllByRecursion Q rs → AllByRecursion Q (cancel t rs (rec s e))
-each_cancel Q t rs s (mkdir y p n) k h = all_push Q rs (rec s (mkdir y p n)) h (k (mkdir y p n))
-each_cancel Q t rs s (create y p n) k h = all_push Q rs (rec s (create y p n)) h (k (create y p n))
-each_cancel Q t rs s (store y c e) k h = all_push Q (erase_store y rs) (rec s (store y c (expected y e rs))) (all_erase Q y rs h) (k (store y c (expected y e rs)))
-each_cancel Q t rs s (remove y p n e) k h = cond_both (t y) _ _ (AllByRecursion Q) (λ _. all_keep Q (λ r. not (eqb (object r.edit) y)) rs h) (λ _. all_push Q (erase_store y rs) (rec s (remove y p n (expected y e rs))) (all_erase Q y rs h) (k (remove y p n (expected y e rs))))
-each_cancel Q t rs s (rmdir y p n) k h = cond_both (t y && not (named_by_other y rs)) _ _ (AllByRecursion Q) (λ _. all_keep Q (λ r. not (eqb (object r.edit) y)) rs h) (λ _. all_push Q rs (rec s (rmdir y p n)) h (k (rmdir y p n)))
-each_cancel Q t rs s (rename y p n q m) k h = all_push Q rs (rec s (rename y p n q m)) h (k (rename y p n q m))
+each_cancel Q t rs s (mkdir y p n) k h = All-push Q rs (rec s (mkdir y p n)) h (k (mkdir y p n))
+each_cancel Q t rs s (create y p n) k h = All-push Q rs (rec s (create y p n)) h (k (create y p n))
+each_cancel Q t rs s (store y c e) k h = All-push Q (erase_store y rs) (rec s (store y c (expected y e rs))) (all_erase Q y rs h) (k (store y c (expected y e rs)))
+each_cancel Q t rs s (remove y p n e) k h = cond_both (t y) _ _ (AllByRecursion Q) (λ _. all_keep Q (λ r. not (eqb (object r.edit) y)) rs h) (λ _. All-push Q (erase_store y rs) (rec s (remove y p n (expected y e rs))) (all_erase Q y rs h) (k (remove y p n (expected y e rs))))
+each_cancel Q t rs s (rmdir y p n) k h = cond_both (t y && not (named_by_other y rs)) _ _ (AllByRecursion Q) (λ _. all_keep Q (λ r. not (eqb (object r.edit) y)) rs h) (λ _. All-push Q rs (rec s (rmdir y p n)) h (k (rmdir y p n)))
+each_cancel Q t rs s (rename y p n q m) k h = All-push Q rs (rec s (rename y p n q m)) h (k (rename y p n q m))
 
 number_late : (k : ℕ) (e : Edit) → Numbered k e → Late e
-number_late k (mkdir y p n) h = omega arith
-number_late k (create y p n) h = omega arith
-number_late k (store y c e) h = tt
-number_late k (remove y p n e) h = tt
-number_late k (rmdir y p n) h = tt
-number_late k (rename y p n q m) h = tt
+number_late k e h = search rules
 
 free_late : (e : Edit) → Late e → Free Late (born 0) [] tt e
-free_late (mkdir y p n) h = h
-free_late (create y p n) h = h
-free_late (store y c e) h = λ f. tt
-free_late (remove y p n e) h = λ f. tt
-free_late (rmdir y p n) h = h
-free_late (rename y p n q m) h = h
+free_late e h = search rules
 
 late_unborn : (x : ℕ) (e : Edit) → x < temporary → Late e → births x e ≡ false
-late_unborn x (mkdir y p n) lt h = ne_eqb y x (λ e. omega arith)
-late_unborn x (create y p n) lt h = ne_eqb y x (λ e. omega arith)
-late_unborn x (store y c e) lt h = refl
-late_unborn x (remove y p n e) lt h = refl
-late_unborn x (rmdir y p n) lt h = refl
-late_unborn x (rename y p n q m) lt h = refl
+late_unborn x e lt h = search rules
 
 none_of : (o p : Option Stamp) → sooner o p ≡ None → (o ≡ None) × (p ≡ None)
 none_of None p h = (refl, h)
-none_of (Some t) p h = absurd (never t (sym h))
+none_of (Some t) p h = absurd (none-some t (sym h))
 
 some_which : (o p : Option Stamp) (t : Stamp) → sooner o p ≡ Some t → (o ≡ Some t) ⊎ ((o ≡ None) × (p ≡ Some t))
 some_which None p t h = inr (refl, h)
@@ -123,7 +110,7 @@ module _ (next a : ℕ) (d : Loader) (s : Stay) (c : Call) (p : Past) (mine : d.
   cancelled : Gone a (d.serial + 1) cap (cancel (born (now_given s c d)) (log s d) r) after spell
   cancelled = record {
     order = omega (arith, g.order);
-    spans = each_cancel (Spans a s.base (d.serial + 1)) (born (now_given s c d)) (log s d) (stamp_of r) r.edit (λ e. (mine, omega (arith, g.order), omega arith)) (all_weaker (Spans a s.base d.serial) (Spans a s.base (d.serial + 1)) (λ q k. (k.0, k.1, omega (arith, k.2))) (log s d) g.spans);
+    spans = each_cancel (Spans a s.base (d.serial + 1)) (born (now_given s c d)) (log s d) (stamp_of r) r.edit (λ e. (mine, omega (arith, g.order), omega arith)) (All-weaker (Spans a s.base d.serial) (Spans a s.base (d.serial + 1)) (λ q k. (k.0, k.1, omega (arith, k.2))) (log s d) g.spans);
     late = all_cancel Late (born (now_given s c d)) (log s d) g.late (stamp_of r) r.edit (free_late r.edit (subst Late (sym same_edits) u_late));
     alike = λ x k. awaited_cancel x k (log s d) lone (now_given s c d) (stamp_of r) r.edit ∙ ap₂ (λ z y. sooner z (awaits x y)) (g.alike x k) same_edits ∙ sym (awaited_push x p.list u);
     starts = λ x t k f. elim (some_which (awaited x p.list) (awaits x u.edit) t (sym (awaited_push x p.list u) ∙ f)) [
@@ -177,9 +164,9 @@ module _ (w : World) (ps : Pasts) (sane : Sane w ps) (told : Told w ps) (a : ℕ
       let inner = guard_keeps P LoaderLayer cs d (read_done x d.copy d) same_told (kept (read_done x d.copy d).0.hoard) in
       guard_keeps P Copy (check (is_file (at x d.copy.objects)) NoSuchObject ∷ []) d (guard LoaderLayer cs d (read_done x d.copy d)) same_told inner
 
-  walk_told : (b : Bool) → d.state ≡ home b → (k : ℕ) → let z = walks w.policy k w.server d in Told (put_loader z.0 w) (past_after (walk a k) w (done_answer z.1) ps)
+  walk_told : (b : Bool) → d.state ≡ home b → (k : ℕ) → let z = walks w.policy k w.server d in Told (put_loader z.0 w) (past_after (walk a k) w (call_answer (λ _. Done) z.1) ps)
   walk_told b here k = elim (guard_ways LoaderLayer cs d done) [
-    | inl g ↦ subst P (sym g.1) (put_past_here w ps told a d there e mine up p (tells.0, λ _. record { stale = all_weaker (λ o. Old w o.stamp) (λ o. Old (put_loader e w) o.stamp) (λ o h. grows w ps told a d there e mine up o.stamp h) w.server.objects told.old; agree = agree_same w.server.objects }))
+    | inl g ↦ subst P (sym g.1) (put_past_here w ps told a d there e mine up p (tells.0, λ _. record { stale = All-weaker (λ o. Old w o.stamp) (λ o. Old (put_loader e w) o.stamp) (λ o h. grows w ps told a d there e mine up o.stamp h) w.server.objects told.old; agree = agree_same w.server.objects }))
     | inr g ↦ subst P (sym g.1) same_told
   ]
     where
@@ -199,9 +186,9 @@ module _ (w : World) (ps : Pasts) (sane : Sane w ps) (told : Told w ps) (a : ℕ
       done = (walk_done w.policy w.server d, Ok tt)
 
       P : Loader × Result (Unit {0}) Fault → Type 0
-      P z = Told (put_loader z.0 w) (past_after (walk a k) w (done_answer z.1) ps)
+      P z = Told (put_loader z.0 w) (past_after (walk a k) w (call_answer (λ _. Done) z.1) ps)
 
-  leave_told : (b : Bool) → d.state ≡ home b → Told (put_loader (leaves b d).0 w) (past_after (leave a) w (done_answer (leaves b d).1) ps)
+  leave_told : (b : Bool) → d.state ≡ home b → Told (put_loader (leaves b d).0 w) (past_after (leave a) w (call_answer (λ _. Done) (leaves b d).1) ps)
   leave_told b here = elim (guard_ways LoaderLayer (check b NotWalked ∷ []) d done) [
     | inl g ↦ subst P (sym g.1) (put_past_here w ps told a d there e mine up p (tells.0, (seen (saw g.0.0), empty)))
     | inr g ↦ subst P (sym g.1) same_told
@@ -223,16 +210,16 @@ module _ (w : World) (ps : Pasts) (sane : Sane w ps) (told : Told w ps) (a : ℕ
       saw = subst (ToldIn (Old w) w.server.objects a d.serial d.copy.capacity d.memory (ps a)) here tells.1
 
       seen : Saw (Old w) w.server.objects (ps a) → Saw (Old (put_loader (with_state (away (record { maker = d.number; base = d.serial; count = 0; given = 0 })) d) w)) w.server.objects (record { seen = (ps a).seen; list = []; edits = (ps a).edits })
-      seen h = record { stale = all_weaker (λ o. Old w o.stamp) (λ o. Old (put_loader e w) o.stamp) (λ o h. grows w ps told a d there e mine up o.stamp h) (ps a).seen h.stale; agree = h.agree }
+      seen h = record { stale = All-weaker (λ o. Old w o.stamp) (λ o. Old (put_loader e w) o.stamp) (λ o h. grows w ps told a d there e mine up o.stamp h) (ps a).seen h.stale; agree = h.agree }
 
       empty : Gone a d.serial d.copy.capacity [] (record { seen = (ps a).seen; list = []; edits = (ps a).edits }) (record { maker = d.number; base = d.serial; count = 0; given = 0 })
-      empty = record { order = omega arith; spans = tt; late = tt; alike = λ x k. refl; starts = λ x t k f. absurd (never t f); rest = λ x t k f j. j }
+      empty = record { order = omega arith; spans = tt; late = tt; alike = λ x k. refl; starts = λ x t k f. absurd (none-some t f); rest = λ x t k f j. j }
 
       done : Loader × Result (Unit {0}) Fault
       done = (with_state (away (record { maker = d.number; base = d.serial; count = 0; given = 0 })) d, Ok tt)
 
       P : Loader × Result (Unit {0}) Fault → Type 0
-      P z = Told (put_loader z.0 w) (past_after (leave a) w (done_answer z.1) ps)
+      P z = Told (put_loader z.0 w) (past_after (leave a) w (call_answer (λ _. Done) z.1) ps)
 
   -- ---- turns away
 
@@ -249,9 +236,9 @@ module _ (w : World) (ps : Pasts) (sane : Sane w ps) (told : Told w ps) (a : ℕ
     quit_told : Told (put_loader (comes_home d) w) ps
     quit_told = put_here w ps told a d there (comes_home d) mine home_up ps (tells.0, λ e. absurd (both_ways false refl e)) (λ b ne. refl)
 
-    edit_told : (c : Call) (k : ℕ) → Told (put_loader (edited s c k d).0 w) (past_after (edit a c k) w (edit_answer c (edited s c k d).1) ps)
+    edit_told : (c : Call) (k : ℕ) → Told (put_loader (edited s c k d).0 w) (past_after (edit a c k) w (call_answer (made_by c) (edited s c k d).1) ps)
     edit_told c k = elim (edit_ways s c k d) [
-      | inl g ↦ subst P (sym g.1) (subst (Told (put_loader (with_edit_done s c d) w)) (sym (cond-true (accepted (made_by c (object (new_record s c d).edit))) _ _ (made_accepted c (object (new_record s c d).edit)))) (subst Q (sym roomy) (put_past_here w ps told a d there (with_edit_done s c d) mine up (record { seen = (ps a).seen; list = (ps a).list ++ (listed a d.copy.capacity c (ps a) ∷ []); edits = (ps a).edits + 1 }) (tells.0, (saw, gone_now w.server.next a d s c (ps a) mine fit.0 out g.0 off.1)))))
+      | inl g ↦ subst P (sym g.1) (subst Q (sym roomy) (put_past_here w ps told a d there (with_edit_done s c d) mine up (record { seen = (ps a).seen; list = (ps a).list ++ (listed a d.copy.capacity c (ps a) ∷ []); edits = (ps a).edits + 1 }) (tells.0, (saw, gone_now w.server.next a d s c (ps a) mine fit.0 out g.0 off.1))))
       | inr g ↦ subst P (sym g.1) same_told
     ]
       where
@@ -259,13 +246,13 @@ module _ (w : World) (ps : Pasts) (sane : Sane w ps) (told : Told w ps) (a : ℕ
         up = omega (arith, level_is d (away s) gone)
 
         saw : Saw (Old (put_loader (with_edit_done s c d) w)) w.server.objects (record { seen = (ps a).seen; list = (ps a).list ++ (listed a d.copy.capacity c (ps a) ∷ []); edits = (ps a).edits + 1 })
-        saw = record { stale = all_weaker (λ o. Old w o.stamp) (λ o. Old (put_loader (with_edit_done s c d) w) o.stamp) (λ o h. grows w ps told a d there (with_edit_done s c d) mine up o.stamp h) (ps a).seen off.0.stale; agree = off.0.agree }
+        saw = record { stale = All-weaker (λ o. Old w o.stamp) (λ o. Old (put_loader (with_edit_done s c d) w) o.stamp) (λ o h. grows w ps told a d there (with_edit_done s c d) mine up o.stamp h) (ps a).seen off.0.stale; agree = off.0.agree }
 
         roomy : capacity_of a w ≡ d.copy.capacity
         roomy = ap (λ (r : Option Loader). let z : ℕ = elim r [ None ↦ 0 | Some d ↦ d.copy.capacity ] in z) there
 
         P : Loader × Result ℕ Fault → Type 0
-        P z = Told (put_loader z.0 w) (past_after (edit a c k) w (edit_answer c z.1) ps)
+        P z = Told (put_loader z.0 w) (past_after (edit a c k) w (call_answer (made_by c) z.1) ps)
 
         Q : ℕ → Type 0
         Q room = Told (put_loader (with_edit_done s c d) w) (put_past a (record { seen = (ps a).seen; list = (ps a).list ++ (listed a room c (ps a) ∷ []); edits = (ps a).edits + 1 }) ps)
@@ -285,14 +272,14 @@ module _ (w : World) (ps : Pasts) (sane : Sane w ps) (told : Told w ps) (a : ℕ
             let f = replay_passes s.given (log s d) w.server t e in
             let v = put_loader (comes_home d) (put_server t w) in
             let fresh : AllByRecursion (λ r. Old w (stamp_of r) → ⊥) (log s d) =
-            all_weaker (Spans a s.base d.serial) (λ r. Old w (stamp_of r) → ⊥) (λ r k old. omega (arith, old.1 d (ap (λ z. loader_of z w.loaders) k.0 ∙ there), k.1, level_is d (away s) gone)) (log s d) off.1.spans
+            All-weaker (Spans a s.base d.serial) (λ r. Old w (stamp_of r) → ⊥) (λ r k old. omega (arith, old.1 d (ap (λ z. loader_of z w.loaders) k.0 ∙ there), k.1, level_is d (away s) gone)) (log s d) off.1.spans
             in
             let now : AllByRecursion (λ r. Old v (stamp_of r)) (log s d) =
-            all_weaker (Spans a s.base d.serial) (λ r. Old v (stamp_of r)) (λ r k. (λ z. absurd (omega (arith, k.0, tells.0)), λ f h. let same : f ≡ comes_home d = put_own (comes_home d) w.loaders f (subst (λ z. loader_of z (with_loader (comes_home d) w.loaders) ≡ Some f) (k.0 ∙ sym mine) h) in subst (λ z. r.serial ≤ level z.state z.serial) (sym same) k.2)) (log s d) off.1.spans
+            All-weaker (Spans a s.base d.serial) (λ r. Old v (stamp_of r)) (λ r k. (λ z. absurd (omega (arith, k.0, tells.0)), λ f h. let same : f ≡ comes_home d = put_own (comes_home d) w.loaders f (subst (λ z. loader_of z (with_loader (comes_home d) w.loaders) ≡ Some f) (k.0 ∙ sym mine) h) in subst (λ z. r.serial ≤ level z.state z.serial) (sym same) k.2)) (log s d) off.1.spans
             in
             put_told w ps told a d there (comes_home d) mine t g.1 home_up ps
             (λ seen k h. subst (Agree seen) (sym f.1) (agree_replay (Old w) seen w.server.next s.given (log s d) w.server.objects k fresh h))
-            (subst (Used (Old v)) (sym f.1) (used_replay (Old v) w.server.next s.given (log s d) w.server.objects now (all_weaker (λ o. Old w o.stamp) (λ o. Old v o.stamp) (λ o h. grow w ps told a d there (comes_home d) mine t g.1 home_up o.stamp h) w.server.objects told.old)))
+            (subst (Used (Old v)) (sym f.1) (used_replay (Old v) w.server.next s.given (log s d) w.server.objects now (All-weaker (λ o. Old w o.stamp) (λ o. Old v o.stamp) (λ o h. grow w ps told a d there (comes_home d) mine t g.1 home_up o.stamp h) w.server.objects told.old)))
             (tells.0, λ e. absurd (both_ways false refl e))
             (λ b ne. refl)
         go top (Err x) e = same_told
@@ -310,7 +297,7 @@ module _ (w : World) (ps : Pasts) (told : Told w ps) where
   office_new c lt = (λ z. omega arith, λ e h. absurd (omega (arith, (told.each 0 e h).0)))
 
   old_before : (c : Call) → Used (Old (after_call c)) w.server.objects
-  old_before c = all_weaker (λ o. Old w o.stamp) (λ o. Old (after_call c) o.stamp) (λ o k. office_old c o.stamp k) w.server.objects told.old
+  old_before c = All-weaker (λ o. Old w o.stamp) (λ o. Old (after_call c) o.stamp) (λ o k. office_old c o.stamp k) w.server.objects told.old
 
   spending : (c : Call) → 0 < spends c → Used (Old (after_call c)) (called_tree c w.server).objects
   spending c lt = used_effect (Old (after_call c)) (stamp_of (office_record c w.server)) (office_record c w.server).edit w.server.objects (office_new c lt) (old_before c)
@@ -373,9 +360,6 @@ run_told (t ∷ ts) w ps s h = run_told ts (step t w).0 (past_after t w (step t 
 
 pub told_run : (w : World) → Start w → (ts : List Turn) → Told (run ts w) (pasts ts w new_pasts)
 told_run w start ts = run_told ts w new_pasts (sane_run w start []) (record {
-  old = all_weaker (λ o. (loader_of o.stamp.author w.loaders ≡ None) × (o.stamp.author ≡ 0 → o.stamp.serial < w.server.next)) (λ o. Old w o.stamp) (λ o h. (h.1, λ e f. absurd (no_loader e (sym h.0 ∙ f)))) w.server.objects start.stamps;
+  old = All-weaker (λ o. (loader_of o.stamp.author w.loaders ≡ None) × (o.stamp.author ≡ 0 → o.stamp.serial < w.server.next)) (λ o. Old w o.stamp) (λ o h. (h.1, λ e f. absurd (none-some e (sym h.0 ∙ f)))) w.server.objects start.stamps;
   each = λ a d h. let k = found (λ d. (d.serial ≡ 0) × (d.state ≡ home false) × (0 < d.number)) a w.loaders d start.new h in (subst (λ z. 0 < z) k.1 k.0.2, subst (ToldIn (Old w) w.server.objects a d.serial d.copy.capacity d.memory new_past) (sym k.0.1) (λ e. absurd (both_ways false refl e)));
 })
-  where
-    no_loader : (e : Loader) → None ≡ Some e → ⊥
-    no_loader e h = let z : ◌≡◌ {A = ℕ} 0 1 = cc in omega arith

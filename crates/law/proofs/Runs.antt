@@ -3,10 +3,9 @@
 --     tests cap e l      the checks of e on the objects l of a tree of capacity cap
 --     Passes cap rs l    each record of rs passes in turn
 --     final rs l         the objects after
-use Rattle.std.proofs.Common.{◌≡◌, ℕ, List, [], ◌∷◌, map, Ok, Err, Result, sym, refl, ap, ◌∙◌, arith}
+use Rattle.std.proofs.Common.{◌≡◌, ℕ, List, [], ◌∷◌, map, Ok, Err, Result, sym, refl, ap, ◌∙◌, arith, rules}
 use Rattle.model.specs.Applying.{all_checks, applied, effect}
-use Rattle.model.specs.Cases.{a, b}
-use Rattle.model.specs.Records.{Edit, Record, create, mkdir, remove, rename, rmdir, stamp_of, store}
+use Rattle.model.specs.Records.{Edit, Record, stamp_of}
 use Rattle.model.specs.Replaying.{Outcome, replayed, settled, settled_edit}
 use Rattle.model.proofs.Ordering.{applied_in_order}
 use Rattle.tree.specs.Changes.{Changed}
@@ -35,12 +34,7 @@ never a b e = let z : ◌≡◌ {A = ℕ} 0 1 = cc in omega arith
 
 -- the checks do not read the next number
 pub tests_of : (e : Edit) (t : Tree) → all_checks e t ≡ tests t.capacity e t.objects
-tests_of (mkdir x p n) t = refl
-tests_of (create x p n) t = refl
-tests_of (store x c e) t = refl
-tests_of (remove x p n e) t = refl
-tests_of (rmdir x p n) t = refl
-tests_of (rename x p n q m) t = refl
+tests_of e t = search rules
 
 pub in_order : (t : Tree) (r : Record) → applied r t ≡ judge (tests t.capacity r.edit t.objects) t (with_objects t (effect (stamp_of r) r.edit t.objects), tt)
 in_order t r = applied_in_order t r ∙ ap (λ cs. judge cs t (with_objects t (effect (stamp_of r) r.edit t.objects), tt)) (tests_of r.edit t)

@@ -1,18 +1,21 @@
 -- A join overwrites only what the loader saw, and touches only what is listed. Assumes nothing.
-use Rattle.std.proofs.Common.{◌≡◌, ℕ, ◌<◌, ◌≤◌, Bool, true, false, cond, eqb, ◌⊎◌, List, [], ◌∷◌, map, Some, None, Ok, Err, Option, Result, sym, refl, ap, ◌∙◌, subst, inl, inr, arith}
+use Rattle.std.proofs.Common.{◌≡◌, ℕ, ◌<◌, ◌≤◌, Bool, true, false, cond, eqb, ◌⊎◌, List, [], ◌∷◌, map, Some, None, Ok, Option, Result, sym, refl, ap, ◌∙◌, subst, inl, inr, arith, rules}
 use Rattle.std.specs.Option.{option_map}
 use Rattle.std.specs.List.{AllByRecursion}
-use Rattle.std.proofs.lemmas.Bool.{both_ways, or_cases, eqb-true, eqb-false, ne_eqb}
-use Rattle.model.specs.declared.answer.Answer.TheVariants.{Conflicting, Records, Refused}
-use Rattle.model.specs.declared.answer.Conflict.{Conflict}
+use Rattle.std.proofs.ByRecursion.{All-weaker}
+use Rattle.std.proofs.lemmas.Bool.{both_ways, or_cases, eqb-true}
+use Rattle.std.proofs.lemmas.Option.{none-some}
+use Rattle.law.proofs.Lonely.{flip}
+use Rattle.std.proofs.lemmas.Bool.Decides.{nat_tests}
 use Rattle.model.specs.declared.answer.Fault.{Fault}
+use Rattle.model.specs.declared.answer.Reply.TheVariants.{Records}
 use Rattle.model.specs.Applying.{effect}
 use Rattle.model.specs.Hoard.{plain}
-use Rattle.model.specs.Loaders.{Loader, Spell as Stay, joins, log, settled_join}
+use Rattle.model.specs.Loaders.{Loader, Spell as Stay, log}
 use Rattle.model.specs.Past.{Past, Pasts, pasts}
 use Rattle.model.specs.Records.{Edit, Record, create, mkdir, remove, rename, rmdir, stamp_of, store}
-use Rattle.model.specs.Replaying.{Clash, Outcome, replay, settled, settled_edit}
-use Rattle.model.specs.Worlds.{Turn, World, conflict_of, join, join_answer, run, step}
+use Rattle.model.specs.Replaying.{Clash, replay, settled, settled_edit}
+use Rattle.model.specs.Worlds.{Turn, World, join, run, step}
 use Rattle.tree.specs.Changes.{fresh, with_contents, with_place}
 use Rattle.tree.specs.Questions.{is_dir, is_some, regular}
 use Rattle.tree.specs.Trees.{Body, Object, Tree, at, change_one, dir, file, is, some_of, without}
@@ -26,13 +29,12 @@ use Rattle.law.specs.Guarantees.{Away, JoinOverwritesOnlyWhatWasSeen, JoinTouche
 use Rattle.law.proofs.Awaiting.{awaited, awaits, sooner, untouched}
 use Rattle.law.proofs.Delay.{at_insert}
 use Rattle.law.proofs.Entering.{births, touches}
-use Rattle.law.proofs.Guarding.{join_step, join_ways}
 use Rattle.law.proofs.Knowing.{at_all}
 use Rattle.law.proofs.Retelling.{told_run}
 use Rattle.law.proofs.Runs.{Passes, final, rec, tests}
 use Rattle.law.proofs.Sane.{In, Out, Sane, own}
-use Rattle.law.proofs.Settle.{Known, Knows, all_weaker}
-use Rattle.law.proofs.Stamping.{Late, awaits_old, finds_awaited, never, replay_passes, unborn_old}
+use Rattle.law.proofs.Settle.{Known, Knows}
+use Rattle.law.proofs.Stamping.{Late, awaits_old, finds_awaited, replay_passes, unborn_old}
 use Rattle.law.proofs.Telling.{Gone, Old, Saw, ToldIn}
 use Rattle.law.proofs.Turning.{sane_run}
 
@@ -50,28 +52,15 @@ awaited_touched x (r ∷ rs) h = go (awaits x r.edit) refl (or_cases (touches x 
   where
     go : (o : Option Stamp) → awaits x r.edit ≡ o → (touches x r ≡ true) ⊎ (some_of (touches x) rs ≡ true) → (some_of (touches x) rs ≡ true → (t : Stamp) × (awaited x rs ≡ Some t)) → (t : Stamp) × (sooner o (awaited x rs) ≡ Some t)
     go (Some t) e k ih = (t, refl)
-    go None e (inl k) ih = let j = awaits_touched x (stamp_of r) r.edit k in absurd (never j.0 (sym e ∙ j.1))
+    go None e (inl k) ih = let j = awaits_touched x (stamp_of r) r.edit k in absurd (none-some j.0 (sym e ∙ j.1))
     go None e (inr k) ih = ih k
 
 -- what a list awaits, it knows
 awaits_known : (m n x : ℕ) (t : Stamp) (e : Edit) → Knows m n e → awaits x e ≡ Some t → Known m n x
-awaits_known m n x t (mkdir y p o) k h = absurd (never t h)
-awaits_known m n x t (create y p o) k h = absurd (never t h)
-awaits_known m n x t (store y c u) k h = go (eqb y x) refl h
-  where
-    go : (b : Bool) → eqb y x ≡ b → cond b (Some u) None ≡ Some t → Known m n x
-    go true e f = subst (Known m n) (eqb-true y x e) k.0
-    go false e f = absurd (never t f)
-awaits_known m n x t (remove y p o u) k h = go (eqb y x) refl h
-  where
-    go : (b : Bool) → eqb y x ≡ b → cond b (Some u) None ≡ Some t → Known m n x
-    go true e f = subst (Known m n) (eqb-true y x e) k.0
-    go false e f = absurd (never t f)
-awaits_known m n x t (rmdir y p o) k h = absurd (never t h)
-awaits_known m n x t (rename y p o q r) k h = absurd (never t h)
+awaits_known m n x t e k h = search rules
 
 awaited_known : (m n x : ℕ) (t : Stamp) (rs : List Record) → AllByRecursion (λ r. Knows m n r.edit) rs → awaited x rs ≡ Some t → Known m n x
-awaited_known m n x t [] k h = absurd (never t h)
+awaited_known m n x t [] k h = absurd (none-some t h)
 awaited_known m n x t (r ∷ rs) k h = go (awaited_known m n x t rs k.1) (awaits x r.edit) refl h
   where
     go : (awaited x rs ≡ Some t → Known m n x) → (o : Option Stamp) → awaits x r.edit ≡ o → sooner o (awaited x rs) ≡ Some t → Known m n x
@@ -84,18 +73,10 @@ abbrev Left : ℕ → Object → List Object → Type 0
 Left x o l = (q : Object) × (at x l ≡ Some q) × (q.body ≡ o.body) × (q.stamp ≡ o.stamp)
 
 file_not_dir : (o : Object) → regular o ≡ true → is_dir (Some o) ≡ true → ⊥
-file_not_dir o f g = go o.body f g
-  where
-    go : (b : Body) → ◌≡◌ {A = Bool} (elim b [ dir ↦ false | file c ↦ true ]) true → ◌≡◌ {A = Bool} (elim b [ dir ↦ true | file c ↦ false ]) true → ⊥
-    go dir f g = both_ways false refl f
-    go (file c) f g = both_ways false refl g
+file_not_dir o f g = grind (arith, nat_tests)
 
 unequal : (t : Stamp) (b : Bool) → cond b (Some t) None ≡ None → b ≡ false
-unequal t true h = absurd (never t (sym h))
-unequal t false h = refl
-
-flip : (x y : ℕ) → eqb y x ≡ false → eqb x y ≡ false
-flip x y h = ne_eqb x y (λ e. eqb-false y x h (sym e))
+unequal t b h = grind (arith, nat_tests)
 
 module _ (cap x : ℕ) (s : Stamp) (l : List Object) (o : Object) (here : at x l ≡ Some o) (plain : regular o ≡ true) where
   leaves_one : (e : Edit) → Holds (tests cap e l) → awaits x e ≡ None → births x e ≡ false → Left x o (effect s e l)
@@ -120,7 +101,7 @@ module _ (cap x : ℕ) (s : Stamp) (l : List Object) (o : Object) (here : at x l
 
 none_parts : (o p : Option Stamp) → sooner o p ≡ None → (o ≡ None) × (p ≡ None)
 none_parts None p h = (refl, h)
-none_parts (Some t) p h = absurd (never t (sym h))
+none_parts (Some t) p h = absurd (none-some t (sym h))
 
 module _ (b N : ℕ) (bt : b ≤ temporary) (x : ℕ) (lt : x < b) where
   leaves_all : (cap : ℕ) (rs : List Record) (l : List Object) (o : Object) → at x l ≡ Some o → regular o ≡ true → AllByRecursion (λ r. Knows b N r.edit) rs → AllByRecursion (λ r. Late r.edit) rs → Passes cap (map (settled b N) rs) l → awaited x rs ≡ None → Left x o (final (map (settled b N) rs) l)
@@ -134,19 +115,7 @@ module _ (b N : ℕ) (bt : b ≤ temporary) (x : ℕ) (lt : x < b) where
       (i.0, i.1, i.2 ∙ g.2, i.3 ∙ g.3)
 
 knows_low : (m b n : ℕ) → m ≤ b → (e : Edit) → Knows m n e → Knows b n e
-knows_low m b n le e k = go e k
-  where
-    one : (x : ℕ) → Known m n x → Known b n x
-    one x (inl h) = inl (omega arith)
-    one x (inr h) = inr h
-
-    go : (e : Edit) → Knows m n e → Knows b n e
-    go (mkdir x p o) h = (one x h.0, one p h.1)
-    go (create x p o) h = (one x h.0, one p h.1)
-    go (store x c t) h = (one x h.0, tt)
-    go (remove x p o t) h = (one x h.0, one p h.1)
-    go (rmdir x p o) h = (one x h.0, one p h.1)
-    go (rename x p o q r) h = (one x h.0, one p h.1, one q h.2)
+knows_low m b n le e k = grind (arith, nat_tests)
 
 -- ---- a join that passes
 
@@ -180,26 +149,10 @@ module _ (w : World) (start : Start w) (ts : List Turn) (a : ℕ) (d : Loader) (
   abbrev Ran : (Tree × Loader) × Result (Result ℕ Clash) Fault → Type 0
   Ran z = (t : Tree) × (z.0.0 ≡ t) × (replay s.given (log s d) v.server ≡ Ok t)
 
-  ran : (k u n : ℕ) → (step (join a k u) v).1 ≡ Records n → (t : Tree) × ((step (join a k u) v).0.server ≡ t) × (replay s.given (log s d) v.server ≡ Ok t)
-  ran k u n h =
-      let same = join_step a v d s there k u in
-      let g = elim (join_ways s k u v.server d) as (λ _. Ran (joins s k u v.server d)) [
-        | inl g ↦ subst Ran (sym g.2) (go (replay s.given (log s d) v.server) refl (ap (λ z. join_answer z.1) (sym g.2) ∙ sym (ap (λ z. z.1) same) ∙ h))
-        | inr g ↦ absurd (no_refusal g.0 (ap (λ z. join_answer z.1) (sym g.1) ∙ sym (ap (λ z. z.1) same) ∙ h))
-      ] in
-      (g.0, ap (λ z. z.0.server) same ∙ g.1, g.2)
-    where
-      no_refusal : (f : Fault) → Refused f ≡ Records n → ⊥
-      no_refusal f e = let z : ◌≡◌ {A = ℕ} 0 1 = cc in omega arith
+  ran : (k u n : ℕ) → (step (join a k u) v).1 ≡ Ok (Records n) → (t : Tree) × ((step (join a k u) v).0.server ≡ t) × (replay s.given (log s d) v.server ≡ Ok t)
+  ran k u n h = grind (arith, nat_tests)
 
-      no_conflict : (c : Conflict) → Conflicting c ≡ Records n → ⊥
-      no_conflict c e = let z : ◌≡◌ {A = ℕ} 0 1 = cc in omega arith
-
-      go : (o : Outcome) → replay s.given (log s d) v.server ≡ o → join_answer (settled_join s v.server d o).1 ≡ Records n → Ran (settled_join s v.server d o)
-      go (Ok t) e f = (t, refl, e)
-      go (Err c) e f = absurd (no_conflict (conflict_of c) f)
-
-  seen : (k u n : ℕ) → (step (join a k u) v).1 ≡ Records n → (x : ℕ) (o : Object) → at x v.server.objects ≡ Some o → touched x p.list ≡ true → (q : Object) × (at x p.seen ≡ Some q) × (q.body ≡ o.body)
+  seen : (k u n : ℕ) → (step (join a k u) v).1 ≡ Ok (Records n) → (x : ℕ) (o : Object) → at x v.server.objects ≡ Some o → touched x p.list ≡ true → (q : Object) × (at x p.seen ≡ Some q) × (q.body ≡ o.body)
   seen k u n h x o here hit =
       let x-low : x < v.server.next = low x o here in
       let old : x < temporary = omega (arith, sane.server.high) in
@@ -213,13 +166,13 @@ module _ (w : World) (start : Start w) (ts : List Turn) (a : ℕ) (d : Loader) (
       let i : q.0 ≡ o = cc (q.1, here) in
       (j.0, j.1, off.0.agree x j.0 o j.1 here (j.2 ∙ sym q.2 ∙ ap (λ z. z.stamp) i))
 
-  others : (k u n : ℕ) → (step (join a k u) v).1 ≡ Records n → (x : ℕ) (o : Object) → at x v.server.objects ≡ Some o → regular o ≡ true → touched x p.list ≡ false → (q : Object) × (at x (step (join a k u) v).0.server.objects ≡ Some q) × (q.body ≡ o.body) × (q.stamp ≡ o.stamp)
+  others : (k u n : ℕ) → (step (join a k u) v).1 ≡ Ok (Records n) → (x : ℕ) (o : Object) → at x v.server.objects ≡ Some o → regular o ≡ true → touched x p.list ≡ false → (q : Object) × (at x (step (join a k u) v).0.server.objects ≡ Some q) × (q.body ≡ o.body) × (q.stamp ≡ o.stamp)
   others k u n h x o here plain miss =
       let lt : x < v.server.next = low x o here in
       let old : x < temporary = omega (arith, sane.server.high) in
       let r = ran k u n h in
       let passes = replay_passes s.given (log s d) v.server r.0 r.2 in
-      let wide = all_weaker (λ r. Knows out.from s.given r.edit) (λ r. Knows v.server.next s.given r.edit) (λ r g. knows_low out.from v.server.next s.given out.early r.edit g) (log s d) known in
+      let wide = All-weaker (λ r. Knows out.from s.given r.edit) (λ r. Knows v.server.next s.given r.edit) (λ r g. knows_low out.from v.server.next s.given out.early r.edit g) (log s d) known in
       let g = leaves_all v.server.next s.given sane.server.high x lt v.server.capacity (log s d) v.server.objects o here plain wide off.1.late passes.0 (off.1.alike x old ∙ untouched x p.list miss) in
       (g.0, ap (λ z. at x z.objects) r.1 ∙ ap (at x) passes.1 ∙ g.1, g.2, g.3)
 

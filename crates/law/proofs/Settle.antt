@@ -1,10 +1,12 @@
 -- Temporary numbers settled: what cancels is the same. Assumes nothing.
-use Rattle.std.proofs.Common.{◌≡◌, ℕ, ◌+◌, ◌-◌, ◌<◌, ◌≤◌, Bool, true, false, cond, not, ◌&&◌, ◌||◌, eqb, ltb, leb, ◌⊎◌, List, [], ◌∷◌, ◌++◌, map, Some, sym, refl, ap, ◌∙◌, ap₂, inl, inr, arith}
+use Rattle.std.proofs.Common.{◌≡◌, ℕ, ◌+◌, ◌-◌, ◌<◌, ◌≤◌, Bool, true, false, cond, not, ◌&&◌, eqb, ltb, leb, ◌⊎◌, List, [], ◌∷◌, ◌++◌, map, sym, refl, ap, ◌∙◌, ap₂, inl, inr, arith, rules}
 use Rattle.std.specs.List.{AllByRecursion}
+use Rattle.std.proofs.ByRecursion.{All-weaker}
 use Rattle.std.proofs.lemmas.Bool.{and_from, and_left, eq-eqb, ne_eqb, cases_eq, lt-ltb, lt-leb, le-leb}
 use Rattle.vocab.specs.Limits.{temporary}
+use Rattle.std.proofs.lemmas.Bool.Decides.{nat_tests}
 use Rattle.model.specs.Cancelling.{born, erase_object, erase_store, named_by_other, stored_before}
-use Rattle.model.specs.Records.{Edit, Record, create, expectation, mkdir, names, object, remove, rename, rmdir, stamp_of, store, stores}
+use Rattle.model.specs.Records.{Edit, Record, create, mkdir, names, object, remove, rename, rmdir, stamp_of, store, stores}
 use Rattle.model.specs.Replaying.{settle, settled, settled_edit}
 use Rattle.tree.specs.Trees.{keep, some_of}
 use Rattle.tree.proofs.Lists.{map_append}
@@ -26,19 +28,11 @@ Knows m k (rename x p n q o) = Known m k x × Known m k p × Known m k q
 
 pub keep_map_all : {X : Type 0} (p q : X → Bool) (g : X → X) (l : List X) → AllByRecursion (λ x. p (g x) ≡ q x) l → keep p (map g l) ≡ map g (keep q l)
 keep_map_all p q g [] h = refl
-keep_map_all p q g (x ∷ l) h = rw h.0 (go (keep_map_all p q g l h.1) (q x))
-  where
-    go : keep p (map g l) ≡ map g (keep q l) → (b : Bool) → cond b (g x ∷ keep p (map g l)) (keep p (map g l)) ≡ map g (cond b (x ∷ keep q l) (keep q l))
-    go ih true = ap (λ z. g x ∷ z) ih
-    go ih false = ih
+keep_map_all p q g (x ∷ l) h = let ih = keep_map_all p q g l h.1 in grind (arith, nat_tests, h.0)
 
 pub some_map_all : {X : Type 0} (p q : X → Bool) (g : X → X) (l : List X) → AllByRecursion (λ x. p (g x) ≡ q x) l → some_of p (map g l) ≡ some_of q l
 some_map_all p q g [] h = refl
 some_map_all p q g (x ∷ l) h = rw (h.0, some_map_all p q g l h.1)
-
-pub all_weaker : {X : Type 0} (P Q : X → Type 0) → ((x : X) → P x → Q x) → (l : List X) → AllByRecursion P l → AllByRecursion Q l
-all_weaker P Q k [] h = tt
-all_weaker P Q k (x ∷ l) h = (k x h.0, all_weaker P Q k l h.1)
 
 eqb_iff : (a b c d : ℕ) → (a ≡ b → c ≡ d) → (c ≡ d → a ≡ b) → eqb a b ≡ eqb c d
 eqb_iff a b c d f g = elim (cases_eq a b) [ inl e ↦ eq-eqb a b e ∙ sym (eq-eqb c d (f e)) | inr e ↦ ne_eqb a b e ∙ sym (ne_eqb c d (λ h. e (g h))) ]
@@ -68,61 +62,37 @@ module _ (m n b N : ℕ) (mb : m ≤ b) (bt : b ≤ temporary) (more : n ≤ N) 
   settle_born x (inr h) = ap (leb b) (settle_high x h) ∙ le-leb b (b + (x - temporary)) (omega arith) ∙ sym (born_high n x (omega arith) h)
 
   pub object_settled : (x : ℕ) → Known m n x → (e : Edit) → Knows m n e → eqb (object (settled_edit b N e)) (settle b N x) ≡ eqb (object e) x
-  object_settled x k (mkdir y p o) h = settle_eq y x h.0 k
-  object_settled x k (create y p o) h = settle_eq y x h.0 k
-  object_settled x k (store y c t) h = settle_eq y x h.0 k
-  object_settled x k (remove y p o t) h = settle_eq y x h.0 k
-  object_settled x k (rmdir y p o) h = settle_eq y x h.0 k
-  object_settled x k (rename y p o q r) h = settle_eq y x h.0 k
+  object_settled x k e h = search rules
 
   pub stores_settled : (x : ℕ) → Known m n x → (e : Edit) → Knows m n e → stores (settle b N x) (settled_edit b N e) ≡ stores x e
-  stores_settled x k (mkdir y p o) h = refl
-  stores_settled x k (create y p o) h = refl
-  stores_settled x k (store y c t) h = settle_eq y x h.0 k
-  stores_settled x k (remove y p o t) h = refl
-  stores_settled x k (rmdir y p o) h = refl
-  stores_settled x k (rename y p o q r) h = refl
+  stores_settled x k e h = search rules
 
   names_settled : (x : ℕ) → Known m n x → (e : Edit) → Knows m n e → names (settle b N x) (settled_edit b N e) ≡ names x e
-  names_settled x k (mkdir y p o) h = settle_eq p x h.1 k
-  names_settled x k (create y p o) h = settle_eq p x h.1 k
-  names_settled x k (store y c t) h = refl
-  names_settled x k (remove y p o t) h = settle_eq p x h.1 k
-  names_settled x k (rmdir y p o) h = settle_eq p x h.1 k
-  names_settled x k (rename y p o q r) h = ap₂ (λ u v. u || v) (settle_eq p x h.1 k) (settle_eq q x h.2 k)
+  names_settled x k e h = search (rules, settle_eq)
 
   abbrev pub AllKnown : List Record → Type 0
   AllKnown rs = AllByRecursion (λ r. Knows m n r.edit) rs
 
   stored_settled : (x : ℕ) → Known m n x → (rs : List Record) → AllKnown rs → stored_before (settle b N x) (map (settled b N) rs) ≡ stored_before x rs
   stored_settled x k [] h = refl
-  stored_settled x k (r ∷ rs) h = go (stored_settled x k rs h.1) r.edit h.0
-    where
-      go : stored_before (settle b N x) (map (settled b N) rs) ≡ stored_before x rs → (t : Edit) → Knows m n t → cond (stores (settle b N x) (settled_edit b N t)) (expectation (settled_edit b N t)) (stored_before (settle b N x) (map (settled b N) rs)) ≡ cond (stores x t) (expectation t) (stored_before x rs)
-      go ih (mkdir y p o) h = ih
-      go ih (create y p o) h = ih
-      go ih (store y c t) h = ap₂ (λ u v. cond u (Some t) v) (settle_eq y x h.0 k) ih
-      go ih (remove y p o t) h = ih
-      go ih (rmdir y p o) h = ih
-      go ih (rename y p o q r) h = ih
+  stored_settled x k (r ∷ rs) h = let ih = stored_settled x k rs h.1 in search rules
 
   pub erase_store_settled : (x : ℕ) → Known m n x → (rs : List Record) → AllKnown rs → erase_store (settle b N x) (map (settled b N) rs) ≡ map (settled b N) (erase_store x rs)
   erase_store_settled x k [] h = refl
-  erase_store_settled x k (r ∷ rs) h = ap (λ u. cond u (map (settled b N) rs) (settled b N r ∷ erase_store (settle b N x) (map (settled b N) rs))) (stores_settled x k r.edit h.0) ∙ go (erase_store_settled x k rs h.1) (stores x r.edit)
-    where
-      go : erase_store (settle b N x) (map (settled b N) rs) ≡ map (settled b N) (erase_store x rs) → (u : Bool) → cond u (map (settled b N) rs) (settled b N r ∷ erase_store (settle b N x) (map (settled b N) rs)) ≡ map (settled b N) (cond u rs (r ∷ erase_store x rs))
-      go ih true = refl
-      go ih false = ap (λ z. settled b N r ∷ z) ih
+  erase_store_settled x k (r ∷ rs) h =
+      let ih = erase_store_settled x k rs h.1 in
+      let same = stores_settled x k r.edit h.0 in
+      grind (arith, nat_tests)
 
   module _ (rs : List Record) (known : AllKnown rs) where
     expected_settled : (x : ℕ) → Known m n x → (e : Stamp) → expected (settle b N x) e (map (settled b N) rs) ≡ expected x e rs
     expected_settled x k e = ap (instead e) (stored_settled x k rs known)
 
     erase_object_settled : (x : ℕ) → Known m n x → erase_object (settle b N x) (map (settled b N) rs) ≡ map (settled b N) (erase_object x rs)
-    erase_object_settled x k = keep_map_all (λ r. not (eqb (object r.edit) (settle b N x))) (λ r. not (eqb (object r.edit) x)) (settled b N) rs (all_weaker (λ r. Knows m n r.edit) _ (λ r h. ap not (object_settled x k r.edit h)) rs known)
+    erase_object_settled x k = keep_map_all (λ r. not (eqb (object r.edit) (settle b N x))) (λ r. not (eqb (object r.edit) x)) (settled b N) rs (All-weaker (λ r. Knows m n r.edit) _ (λ r h. ap not (object_settled x k r.edit h)) rs known)
 
     named_settled : (x : ℕ) → Known m n x → named_by_other (settle b N x) (map (settled b N) rs) ≡ named_by_other x rs
-    named_settled x k = some_map_all (λ r. not (eqb (object r.edit) (settle b N x)) && names (settle b N x) r.edit) (λ r. not (eqb (object r.edit) x) && names x r.edit) (settled b N) rs (all_weaker (λ r. Knows m n r.edit) _ (λ r h. ap₂ (λ u v. not u && v) (object_settled x k r.edit h) (names_settled x k r.edit h)) rs known)
+    named_settled x k = some_map_all (λ r. not (eqb (object r.edit) (settle b N x)) && names (settle b N x) r.edit) (λ r. not (eqb (object r.edit) x) && names x r.edit) (settled b N) rs (All-weaker (λ r. Knows m n r.edit) _ (λ r h. ap₂ (λ u v. not u && v) (object_settled x k r.edit h) (names_settled x k r.edit h)) rs known)
 
     cancel_settled_edit : (s : Stamp) (e : Edit) → Knows m n e → map (settled b N) (cancel (born n) rs (rec s (e))) ≡ cancel (leb b) (map (settled b N) rs) (rec s (settled_edit b N e))
     cancel_settled_edit s (mkdir x p o) h = map_append (settled b N) rs _

@@ -1,11 +1,12 @@
 -- A spell's log beside all that it recorded. Assumes nothing.
-use Rattle.std.proofs.Common.{◌≡◌, ℕ, ◌+◌, ◌<◌, ◌≤◌, true, false, not, eqb, List, [], ◌∷◌, ◌++◌, map, sym, refl, ap, ◌∙◌, subst, inl, inr, arith}
+use Rattle.std.proofs.Common.{◌≡◌, ℕ, ◌+◌, ◌<◌, ◌≤◌, true, false, not, eqb, List, [], ◌∷◌, ◌++◌, map, sym, refl, ap, ◌∙◌, subst, inl, inr, arith, rules}
 use Rattle.std.specs.List.{AllByRecursion}
+use Rattle.std.proofs.ByRecursion.{All-weaker}
 use Rattle.std.proofs.lemmas.Bool.{and_left, and_right, eqb-true, ne_eqb, not_from_true}
 use Rattle.vocab.specs.Limits.{temporary}
 use Rattle.model.specs.Applying.{effect}
 use Rattle.model.specs.Cancelling.{born}
-use Rattle.model.specs.Records.{Edit, Record, create, mkdir, object, remove, rename, rmdir, stamp_of, store}
+use Rattle.model.specs.Records.{Edit, Record, object, stamp_of}
 use Rattle.model.specs.Replaying.{settled, settled_edit}
 use Rattle.tree.specs.Questions.{is_file}
 use Rattle.tree.specs.Trees.{Object, at, some_of}
@@ -21,7 +22,7 @@ use Rattle.law.proofs.Landing.{all_cancel, born_is, file_before, free_knows, fre
 use Rattle.law.proofs.Lonely.{landings_settled, lone_cancel, lone_settled}
 use Rattle.law.proofs.OneStep.{Bare, Below, final_push, one_step, passes_front, passes_push}
 use Rattle.law.proofs.Runs.{Passes, final, tests}
-use Rattle.law.proofs.Settle.{Knows, all_weaker, cancel_settled}
+use Rattle.law.proofs.Settle.{Knows, cancel_settled}
 
 -- all records us of a spell, its log rs, the copy's objects l, and n numbers given out, where the spell began on numbers below m
 pub record Sound (m : ℕ) (us rs : List Record) (l : List Object) (n : ℕ) : Type 0 where
@@ -35,16 +36,11 @@ pub sound_begin : (m : ℕ) (l : List Object) → AllByRecursion (Placed m 0) l 
 sound_begin m l h = record { objects = h; records = tt; bare = λ x f. refl; lone = tt; agree = λ cap b N k mb bt more s w p. (p, refl) }
 
 bare_of : (m n b N : ℕ) (mb : m ≤ b) (bt : b ≤ temporary) (more : n ≤ N) (cap : ℕ) (rs : List Record) (l : List Object) → AllByRecursion (λ r. Knows m n r.edit) rs → ((x : ℕ) → is_file (at x l) ≡ true → some_of (lands_other x) rs ≡ false) → (e : Edit) → Knows m n e → Holds (tests cap e l) → Bare b (map (settled b N) rs) (settled_edit b N e)
-bare_of m n b N mb bt more cap rs l known bare (mkdir x p o) k h = tt
-bare_of m n b N mb bt more cap rs l known bare (create x p o) k h = tt
-bare_of m n b N mb bt more cap rs l known bare (store x c e) k h = tt
-bare_of m n b N mb bt more cap rs l known bare (remove x p o e) k h = λ _. landings_settled m n b N mb bt more x k.0 rs known ∙ bare x h.0
-bare_of m n b N mb bt more cap rs l known bare (rmdir x p o) k h = tt
-bare_of m n b N mb bt more cap rs l known bare (rename x p o q r) k h = tt
+bare_of m n b N mb bt more cap rs l known bare e k h = search (rules, landings_settled)
 
 pub sound_more : (m : ℕ) → 1 < m → m ≤ temporary → (us rs : List Record) (l : List Object) (n : ℕ) → Sound m us rs l n → (cap : ℕ) (r : Record) → Numbered n r.edit → Holds (tests cap r.edit l) → Sound m (us ++ (r ∷ [])) (cancel (born (n + given r.edit)) rs r) (effect (stamp_of r) r.edit l) (n + given r.edit)
 sound_more m root mt us rs l n old cap r num h = record {
-  objects = placed_effect m n' (stamp_of r) r.edit l knew (λ g. omega (arith, (born_is n (object r.edit) r.edit num g).0)) (all_weaker (Placed m n) (Placed m n') (λ o g. (known_more m n (given r.edit) o.number g.0, known_more m n (given r.edit) o.parent g.1, g.2)) l old.objects);
+  objects = placed_effect m n' (stamp_of r) r.edit l knew (λ g. omega (arith, (born_is n (object r.edit) r.edit num g).0)) (All-weaker (Placed m n) (Placed m n') (λ o g. (known_more m n (given r.edit) o.number g.0, known_more m n (given r.edit) o.parent g.1, g.2)) l old.objects);
   records = all_cancel (Knows m n') (born n') rs known (stamp_of r) r.edit (free_knows m n' r.edit knew);
   bare = λ x f. bare' x f;
   lone = lone_cancel (born n') rs r old.lone;
@@ -58,7 +54,7 @@ sound_more m root mt us rs l n old cap r num h = record {
     knew = knows m n root l old.objects cap r.edit num h
 
     known : AllByRecursion (λ r. Knows m n' r.edit) rs
-    known = all_weaker (λ q. Knows m n q.edit) (λ q. Knows m n' q.edit) (λ q g. knows_more m n (given r.edit) q.edit g) rs old.records
+    known = All-weaker (λ q. Knows m n q.edit) (λ q. Knows m n' q.edit) (λ q g. knows_more m n (given r.edit) q.edit g) rs old.records
 
     bare' : (x : ℕ) → is_file (at x (effect (stamp_of r) r.edit l)) ≡ true → some_of (lands_other x) (cancel (born n') rs r) ≡ false
     bare' x f = elim (file_before cap x (stamp_of r) l r.edit h f) [

@@ -4,14 +4,17 @@
 --     Used Old l        each stamp of l is old
 --     Agree seen l      where both have an object with one stamp, both have its body
 --     Spans a m n r     r is by a, with a serial above m and at most n
-use Rattle.std.proofs.Common.{◌≡◌, ℕ, ◌+◌, ◌<◌, ◌≤◌, Bool, true, false, cond, not, eqb, ltb, leb, ◌⊎◌, List, [], ◌∷◌, map, Some, None, Ok, Err, Option, sym, refl, ap, ◌∙◌, subst, inl, inr, arith}
+use Rattle.std.proofs.Common.{◌≡◌, ℕ, ◌+◌, ◌<◌, ◌≤◌, true, false, not, eqb, ltb, leb, ◌⊎◌, List, [], ◌∷◌, map, Some, None, Ok, Option, sym, refl, ap, ◌∙◌, subst, inl, inr, arith, rules}
 use Rattle.std.specs.List.{AllByRecursion}
-use Rattle.std.proofs.lemmas.Bool.{both_ways, and_parts, and_left, eqb-true, eqb-false, ne_eqb, lt-leb, cond-false}
+use Rattle.std.proofs.lemmas.Bool.{and_parts, and_left, eqb-true, eqb-false, ne_eqb, lt-leb, cond-false}
+use Rattle.std.proofs.lemmas.Option.{none-some}
+use Rattle.std.proofs.lemmas.Bool.Decides.{nat_tests}
+use Rattle.model.proofs.Each.{all_keep}
 use Rattle.model.specs.Applying.{effect, same_stamp, stamped}
 use Rattle.model.specs.Cancelling.{born}
 use Rattle.model.specs.Records.{Edit, Record, create, mkdir, remove, rename, rmdir, stamp_of, store, stores}
-use Rattle.model.specs.Replaying.{Outcome, replay, replayed, settle, settled, settled_edit}
-use Rattle.tree.specs.Changes.{fresh, with_contents, with_next, with_place}
+use Rattle.model.specs.Replaying.{replay, settle, settled, settled_edit}
+use Rattle.tree.specs.Changes.{fresh, with_contents, with_place}
 use Rattle.tree.specs.Questions.{is_some}
 use Rattle.tree.specs.Trees.{Object, Tree, at, change, insert, is, without}
 use Rattle.tree.proofs.Ascending.{at_insert_own, at_without_own}
@@ -25,15 +28,11 @@ use Rattle.law.proofs.Awaiting.{awaited, awaits, sooner}
 use Rattle.law.proofs.Delay.{at_insert}
 use Rattle.law.proofs.Entering.{births}
 use Rattle.law.proofs.Knowing.{all_change, all_insert, at_all}
-use Rattle.law.proofs.Lonely.{all_keep}
 use Rattle.law.proofs.Runs.{Passes, final, run_passes, tests}
 use Rattle.law.proofs.Settle.{Known, Knows, settle_eq}
 
 abbrev pub Has : ℕ → Stamp → List Object → Type 0
 Has x s l = (o : Object) × (at x l ≡ Some o) × (o.stamp ≡ s)
-
-none_some : (o : Object) → None ≡ Some o → ⊥
-none_some o e = let z : ◌≡◌ {A = ℕ} 0 1 = cc in omega arith
 
 -- what a record leaves: its own stamp, or the stamp and the body that were there
 abbrev Was : ℕ → Stamp → List Object → Object → Type 0
@@ -44,29 +43,13 @@ module _ (x : ℕ) (s : Stamp) (l : List Object) (p : Object) where
   here e = inr (p, e, refl, refl)
 
   was_change : (y : ℕ) (g : Object → Object) (same : (o : Object) → (g o).number ≡ o.number) → ((o : Object) → ((g o).stamp ≡ s) ⊎ ((o.stamp ≡ (g o).stamp) × (o.body ≡ (g o).body))) → at x (change y g l) ≡ Some p → Was x s l p
-  was_change y g same k e = let q = at_changed y x g same l p e in pick q.0 q.1 (is y q.0) q.2
-    where
-      pick : (o : Object) → at x l ≡ Some o → (b : Bool) → cond b (g o) o ≡ p → Was x s l p
-      pick o f true j = elim (k o) [ inl h ↦ inl (ap (λ q. q.stamp) (sym j) ∙ h) | inr h ↦ inr (o, f, h.0 ∙ ap (λ q. q.stamp) j, h.1 ∙ ap (λ q. q.body) j) ]
-      pick o f false j = inr (o, f, ap (λ q. q.stamp) j, ap (λ q. q.body) j)
+  was_change y g same k e = grind (arith, nat_tests, at_changed)
 
   was_without : (y : ℕ) → at x (without y l) ≡ Some p → Was x s l p
-  was_without y e = go (eqb x y) refl
-    where
-      go : (b : Bool) → eqb x y ≡ b → Was x s l p
-      go true f = absurd (none_some p (sym (at_without_own x l) ∙ subst (λ z. at x (without z l) ≡ Some p) (sym (eqb-true x y f)) e))
-      go false f = here (sym (at_without y x l f) ∙ e)
+  was_without y e = grind (arith, nat_tests, at_without_own, at_without)
 
   was_insert : (o : Object) → o.stamp ≡ s → at x (insert o l) ≡ Some p → Was x s l p
-  was_insert o st e = go (eqb o.number x) refl
-    where
-      go : (b : Bool) → eqb o.number x ≡ b → Was x s l p
-      go true f =
-          let k : at o.number (insert o l) ≡ Some o = at_insert_own o l in
-          let g : at o.number (insert o l) ≡ Some p = subst (λ z. at z (insert o l) ≡ Some p) (sym (eqb-true o.number x f)) e in
-          let j : o ≡ p = cc in
-          inl (ap (λ q. q.stamp) (sym j) ∙ st)
-      go false f = here (sym (at_insert x o l f) ∙ e)
+  was_insert o st e = grind (arith, nat_tests, at_insert_own, at_insert)
 
   was : (e : Edit) → at x (effect s e l) ≡ Some p → Was x s l p
   was (mkdir y q n) e = was_insert (fresh Directory q n y s) refl e
@@ -79,18 +62,10 @@ module _ (x : ℕ) (s : Stamp) (l : List Object) (p : Object) where
 -- an object's stamp before a record that neither stores it nor makes it
 module _ (x : ℕ) (s : Stamp) (l : List Object) where
   back_without : (y : ℕ) (t : Stamp) → Has x t (without y l) → Has x t l
-  back_without y t h = go (eqb x y) refl
-    where
-      go : (b : Bool) → eqb x y ≡ b → Has x t l
-      go true e = absurd (none_some h.0 (sym (at_without_own x l) ∙ subst (λ z. at x (without z l) ≡ Some h.0) (sym (eqb-true x y e)) h.1))
-      go false e = (h.0, sym (at_without y x l e) ∙ h.1, h.2)
+  back_without y t h = grind (arith, nat_tests, at_without_own, at_without)
 
   back_place : (y q : ℕ) (m : List ℕ) (t : Stamp) → Has x t (change y (with_place q m) l) → Has x t l
-  back_place y q m t h = let k = at_changed y x (with_place q m) (λ o. refl) l h.0 h.1 in (k.0, k.1, sym (same k.0 (is y k.0)) ∙ ap (λ p. p.stamp) k.2 ∙ h.2)
-    where
-      same : (o : Object) (b : Bool) → (cond b (with_place q m o) o).stamp ≡ o.stamp
-      same o true = refl
-      same o false = refl
+  back_place y q m t h = grind (arith, nat_tests, at_changed)
 
   pub back : (e : Edit) (t : Stamp) → stores x e ≡ false → births x e ≡ false → Has x t (effect s e l) → Has x t l
   back (mkdir y p n) t a b h = (h.0, sym (at_insert x (fresh Directory p n y s) l b) ∙ h.1, h.2)
@@ -108,11 +83,7 @@ stamp_same u v h =
     ap (λ z. record { author = z; serial = u.serial }) p ∙ ap (λ z. record { author = v.author; serial = z }) q
 
 has_stamped : (x : ℕ) (t : Stamp) (l : List Object) → stamped t (at x l) ≡ true → Has x t l
-has_stamped x t l h = go (at x l) refl h
-  where
-    go : (r : Option Object) → at x l ≡ r → stamped t r ≡ true → Has x t l
-    go None e h = absurd (both_ways false refl h)
-    go (Some o) e h = (o, e, stamp_same o.stamp t h)
+has_stamped x t l h = grind (arith, nat_tests)
 
 abbrev pub Late : Edit → Type 0
 Late (mkdir y p n) = temporary ≤ y
@@ -122,37 +93,12 @@ Late (remove y p n e) = Unit {0}
 Late (rmdir y p n) = Unit {0}
 Late (rename y p n q m) = Unit {0}
 
-pub never : (t : Stamp) → None ≡ Some t → ⊥
-never t e = let z : ◌≡◌ {A = ℕ} 0 1 = cc in omega arith
-
 -- a record that passes finds the stamp that it expects
 pub finds : (x cap : ℕ) (e : Edit) (l : List Object) (t : Stamp) → Holds (tests cap e l) → awaits x e ≡ Some t → Has x t l
-finds x cap (mkdir y p n) l t h f = absurd (never t f)
-finds x cap (create y p n) l t h f = absurd (never t f)
-finds x cap (store y c u) l t h f = go (eqb y x) refl f
-  where
-    go : (b : Bool) → eqb y x ≡ b → cond b (Some u) None ≡ Some t → Has x t l
-    go true g f = let j : u ≡ t = cc in subst (λ z. Has x z l) j (subst (λ z. Has z u l) (eqb-true y x g) (has_stamped y u l h.1.0))
-    go false g f = absurd (never t f)
-finds x cap (remove y p n u) l t h f = go (eqb y x) refl f
-  where
-    go : (b : Bool) → eqb y x ≡ b → cond b (Some u) None ≡ Some t → Has x t l
-    go true g f = let j : u ≡ t = cc in subst (λ z. Has x z l) j (subst (λ z. Has z u l) (eqb-true y x g) (has_stamped y u l h.1.1.0))
-    go false g f = absurd (never t f)
-finds x cap (rmdir y p n) l t h f = absurd (never t f)
-finds x cap (rename y p n q m) l t h f = absurd (never t f)
+finds x cap e l t h f = search (rules, none-some, eqb-true, has_stamped)
 
 pub unawaited : (x : ℕ) (e : Edit) → awaits x e ≡ None → stores x e ≡ false
-unawaited x (mkdir y p n) h = refl
-unawaited x (create y p n) h = refl
-unawaited x (store y c e) h = go (eqb y x) refl h
-  where
-    go : (b : Bool) → eqb y x ≡ b → cond b (Some e) None ≡ None → eqb y x ≡ false
-    go true g h = absurd (never e (sym h))
-    go false g h = g
-unawaited x (remove y p n e) h = refl
-unawaited x (rmdir y p n) h = refl
-unawaited x (rename y p n q m) h = refl
+unawaited x e h = search rules
 
 -- a list that passes finds the stamp that it awaits
 module _ (m n b N : ℕ) (mb : m ≤ b) (bt : b ≤ temporary) (more : n ≤ N) (x : ℕ) (xm : x < m) where
@@ -166,23 +112,13 @@ module _ (m n b N : ℕ) (mb : m ≤ b) (bt : b ≤ temporary) (more : n ≤ N) 
   settle_old y k = ap (eqb (settle b N y)) (sym stays_old) ∙ settle_eq m n b N mb bt more y x k old
 
   pub unborn_old : (e : Edit) → Knows m n e → Late e → births x (settled_edit b N e) ≡ false
-  unborn_old (mkdir y p o) k h = settle_old y k.0 ∙ ne_eqb y x (λ e. omega arith)
-  unborn_old (create y p o) k h = settle_old y k.0 ∙ ne_eqb y x (λ e. omega arith)
-  unborn_old (store y c e) k h = refl
-  unborn_old (remove y p o e) k h = refl
-  unborn_old (rmdir y p o) k h = refl
-  unborn_old (rename y p o q r) k h = refl
+  unborn_old e k h = search rules
 
   pub awaits_old : (e : Edit) → Knows m n e → awaits x (settled_edit b N e) ≡ awaits x e
-  awaits_old (mkdir y p o) k = refl
-  awaits_old (create y p o) k = refl
-  awaits_old (store y c t) k = ap (λ z. cond z (Some t) None) (settle_old y k.0)
-  awaits_old (remove y p o t) k = ap (λ z. cond z (Some t) None) (settle_old y k.0)
-  awaits_old (rmdir y p o) k = refl
-  awaits_old (rename y p o q r) k = refl
+  awaits_old e k = search rules
 
   pub finds_awaited : (cap : ℕ) (rs : List Record) (l : List Object) (t : Stamp) → AllByRecursion (λ r. Knows m n r.edit) rs → AllByRecursion (λ r. Late r.edit) rs → Passes cap (map (settled b N) rs) l → awaited x rs ≡ Some t → Has x t l
-  finds_awaited cap [] l t k a h f = absurd (never t f)
+  finds_awaited cap [] l t k a h f = absurd (none-some t f)
   finds_awaited cap (r ∷ rs) l t k a h f = go (finds_awaited cap rs (effect (stamp_of r) e l) t k.1 a.1 h.1) (awaits x r.edit) refl f
     where
       e : Edit
@@ -233,11 +169,4 @@ module _ (Old : Stamp → Type 0) where
   used_replay b N (r ∷ rs) l k g = used_replay b N rs (effect (stamp_of r) (settled_edit b N r.edit) l) k.1 (used_effect (stamp_of r) (settled_edit b N r.edit) l k.0 g)
 
 pub replay_passes : (n : ℕ) (rs : List Record) (t u : Tree) → replay n rs t ≡ Ok u → Passes t.capacity (map (settled t.next n) rs) t.objects × (u.objects ≡ final (map (settled t.next n) rs) t.objects)
-replay_passes n rs t u h = go (replayed t.next n rs t) refl h
-  where
-    go : (o : Outcome) → replayed t.next n rs t ≡ o → ◌≡◌ {A = Outcome} (elim o [ Ok w ↦ Ok (with_next w (t.next + n)) | Err c ↦ Err c ]) (Ok u) → Passes t.capacity (map (settled t.next n) rs) t.objects × (u.objects ≡ final (map (settled t.next n) rs) t.objects)
-    go (Ok w) e g =
-        let ran = run_passes t.next n rs t w e in
-        let same : with_next w (t.next + n) ≡ u = cc in
-        (ran.0, ap (λ z. z.objects) (sym same) ∙ ap (λ z. z.objects) ran.1)
-    go (Err c) e g = let z : ◌≡◌ {A = ℕ} 0 1 = cc in absurd (omega arith)
+replay_passes n rs t u h = grind (arith, nat_tests, run_passes)

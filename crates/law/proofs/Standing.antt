@@ -1,31 +1,32 @@
 -- The server's numbers: what keeps them below its next number. Assumes nothing.
 --     Stands t     the numbers and parents of t lie below its next number, itself at least 2 and not temporary
 --     Lows b e     the numbers that the edit e puts into a tree lie below b
-use Rattle.std.proofs.Common.{◌≡◌, ℕ, ◌+◌, ◌-◌, ◌<◌, ◌≤◌, Bool, true, false, cond, not, ◌&&◌, eqb, ltb, leb, List, [], ◌∷◌, map, Some, None, Ok, Err, Option, sym, refl, ap, ◌∙◌, subst, inl, inr, arith}
+use Rattle.std.proofs.Common.{◌≡◌, ℕ, ◌+◌, ◌-◌, ◌<◌, ◌≤◌, true, false, not, ◌&&◌, eqb, ltb, leb, List, [], ◌∷◌, map, Some, Ok, Err, sym, refl, ap, ◌∙◌, subst, inl, inr, arith, rules}
 use Rattle.std.specs.List.{AllByRecursion}
-use Rattle.std.proofs.lemmas.Bool.{both_ways, or_from, or_cases, and_parts, and_from, eqb-true, ltb-true, lt-ltb, leb-true, lt-leb, le-leb, cond_both, not-true}
+use Rattle.std.proofs.ByRecursion.{All-weaker}
+use Rattle.std.proofs.lemmas.Bool.{both_ways, or_cases, and_parts, and_from, eqb-true, ltb-true, lt-ltb, leb-true, lt-leb, le-leb, cond_both, not-true}
+use Rattle.model.proofs.Each.{all_keep}
 use Rattle.model.specs.Applying.{applied, effect}
 use Rattle.model.specs.Cancelling.{born}
 use Rattle.model.specs.Loaders.{names_strange, none_strange, strange}
-use Rattle.model.specs.Office.{Call, call_checks, called, edit_of, make_directory, make_file, office_record, raised, remove_directory, remove_file, rename_object, spends, store_into}
+use Rattle.model.specs.Office.{Call, call_checks, called, edit_of, office_record, raised, spends}
 use Rattle.model.specs.Records.{Edit, Record, create, mkdir, remove, rename, rmdir, stamp_of, store}
 use Rattle.model.specs.Replaying.{Outcome, replay, replayed, settle, settled, settled_edit}
-use Rattle.model.proofs.Serving.{first_keeps}
+use Rattle.model.proofs.Serving.{first_keeps, raised_keeps, room_above}
 use Rattle.tree.specs.Changes.{fresh, with_contents, with_next, with_place}
 use Rattle.tree.specs.Questions.{dir_at, is_dir, is_some}
 use Rattle.tree.specs.Trees.{Object, Tree, at, change, change_one, insert, is, with_objects, without}
 use Rattle.tree.proofs.Ascending.{ascends_insert, ascends_keep, ascends_map}
-use Rattle.tree.proofs.Changed.{at_number, some_none}
+use Rattle.tree.proofs.Changed.{at_number, some_none, dir_some}
 use Rattle.tree.proofs.Objects.{change_number}
 use Rattle.vocab.specs.declared.kind.Kind.TheVariants.{Directory, File}
 use Rattle.vocab.specs.declared.stamp.Stamp.{Stamp}
-use Rattle.vocab.specs.Checks.{Check, Holds, judge}
+use Rattle.vocab.specs.Checks.{Holds}
 use Rattle.vocab.specs.Limits.{temporary}
 use Rattle.law.specs.Spells.{Under}
 use Rattle.law.proofs.Knowing.{all_change, all_insert, at_all}
-use Rattle.law.proofs.Lonely.{all_keep}
 use Rattle.law.proofs.Runs.{Passes, final, in_order, run_passes, tests}
-use Rattle.law.proofs.Settle.{Known, Knows, all_weaker}
+use Rattle.law.proofs.Settle.{Known, Knows}
 
 pub record Stands (t : Tree) : Type 0 where
   pub under : Under t.next t.objects
@@ -33,7 +34,7 @@ pub record Stands (t : Tree) : Type 0 where
   pub high : t.next ≤ temporary
 
 pub under_more : (m b : ℕ) → m ≤ b → (l : List Object) → Under m l → Under b l
-under_more m b le l h = record { ascending = h.ascending; below = all_weaker (λ o. (o.number < m) × (o.parent < m)) (λ o. (o.number < b) × (o.parent < b)) (λ o g. (omega arith, omega arith)) l h.below }
+under_more m b le l h = record { ascending = h.ascending; below = All-weaker (λ o. (o.number < m) × (o.parent < m)) (λ o. (o.number < b) × (o.parent < b)) (λ o g. (omega arith, omega arith)) l h.below }
 
 abbrev Lows : ℕ → Edit → Type 0
 Lows b (mkdir x p n) = (x < b) × (p < b)
@@ -70,44 +71,19 @@ module _ (b : ℕ) (l : List Object) (h : Under b l) where
   effect_under cap s (rename x p n q m) k a = change_under x (with_place q m) (λ o. refl) (λ o g. (g.0, a))
 
   dir_under : (p : ℕ) → 1 < b → dir_at p l ≡ true → p < b
-  dir_under p root d = elim (or_cases (eqb p 1) (is_dir (at p l)) d) [ inl e ↦ omega (arith, eqb-true p 1 e) | inr e ↦ found (at_all Low p l h.below (some_of_dir (at p l) e)) ]
+  dir_under p root d = elim (or_cases (eqb p 1) (is_dir (at p l)) d) [ inl e ↦ omega (arith, eqb-true p 1 e) | inr e ↦ found (at_all Low p l h.below (ap is_some (dir_some (at p l) e).1)) ]
     where
-      some_of_dir : (r : Option Object) → is_dir r ≡ true → is_some r ≡ true
-      some_of_dir None e = e
-      some_of_dir (Some o) e = refl
-
       found : (o : Object) × (at p l ≡ Some o) × Low o → p < b
       found k = subst (λ z. z < b) (eqb-true k.0.number p (at_number p k.0 l k.1)) k.2.0
 
 -- ---- the office's calls
 
-pub raised_keeps : (P : Tree → Type 0) (k : ℕ) (cs : List Check) (t u : Tree) → P t → (Holds cs → P (with_next u (u.next + k))) → P (raised k (judge cs t (u, tt))).0
-raised_keeps P k [] t u p q = q tt
-raised_keeps P k (c ∷ cs) t u p q = go (raised_keeps P k cs t u p) c.holds refl
-  where
-    go : ((Holds cs → P (with_next u (u.next + k))) → P (raised k (judge cs t (u, tt))).0) → (b : Bool) → c.holds ≡ b → P (raised k (cond c.holds (judge cs t (u, tt)) (t, Err c.else))).0
-    go ih true e = rw e (ih (λ h. q (e, h)))
-    go ih false e = rw e p
-
 module _ (t : Tree) (ok : Stands t) where
-  office_room : (c : Call) → Holds (call_checks c t) → t.next + spends c ≤ temporary
-  office_room (make_directory p n) h = omega (arith, ltb-true t.next temporary h.1.0)
-  office_room (make_file p n) h = omega (arith, ltb-true t.next temporary h.1.0)
-  office_room (store_into x c) h = omega (arith, ltb-true t.next temporary h.1.0)
-  office_room (remove_file p n) h = omega (arith, ok.high)
-  office_room (remove_directory p n) h = omega (arith, ok.high)
-  office_room (rename_object p n q m) h = omega (arith, ok.high)
-
   under_dir : (p : ℕ) → dir_at p t.objects ≡ true → p < t.next
   under_dir p d = let two = ok.low in dir_under t.next t.objects ok.under p (omega arith) d
 
   office_lows : (c : Call) → Holds (tests t.capacity (edit_of t.next c t) t.objects) → Lows (t.next + spends c) (edit_of t.next c t)
-  office_lows (make_directory p n) h = (omega arith, omega (arith, under_dir p h.0))
-  office_lows (make_file p n) h = (omega arith, omega (arith, under_dir p h.0))
-  office_lows (store_into x c) h = tt
-  office_lows (remove_file p n) h = tt
-  office_lows (remove_directory p n) h = tt
-  office_lows (rename_object p n q m) h = omega (arith, under_dir q h.1.1.0)
+  office_lows c h = search (rules, under_dir)
 
   abbrev After : Tree → Type 0
   After u = Stands u × (t.next ≤ u.next)
@@ -125,7 +101,7 @@ module _ (t : Tree) (ok : Stands t) where
         record {
           under = effect_under (t.next + k) t.objects (under_more t.next (t.next + k) (omega arith) t.objects ok.under) t.capacity (stamp_of r) r.edit g (office_lows c g);
           low = omega (arith, ok.low);
-          high = office_room c h;
+          high = room_above t c ok.high h;
         },
         omega arith,
       ))))
@@ -139,12 +115,7 @@ module _ (m n b : ℕ) (mb : m ≤ b) (bt : b ≤ temporary) where
       (λ e. elim k [ inl h ↦ omega arith | inr h ↦ absurd (both_ways (born n x) e (and_from (leb temporary x) (ltb x (temporary + n)) (le-leb temporary x h.0) (lt-ltb x (temporary + n) h.1))) ])
 
   settled_lows : (e : Edit) → Knows m n e → Lows (b + n) (settled_edit b n e)
-  settled_lows (mkdir x p o) k = (settle_low x k.0, settle_low p k.1)
-  settled_lows (create x p o) k = (settle_low x k.0, settle_low p k.1)
-  settled_lows (store x c e) k = tt
-  settled_lows (remove x p o e) k = tt
-  settled_lows (rmdir x p o) k = tt
-  settled_lows (rename x p o q r) k = settle_low q k.2
+  settled_lows e k = search rules
 
   final_under : (cap : ℕ) (rs : List Record) (l : List Object) → AllByRecursion (λ r. Knows m n r.edit) rs → Passes cap (map (settled b n) rs) l → Under (b + n) l → Under (b + n) (final (map (settled b n) rs) l)
   final_under cap [] l k h g = g
@@ -176,12 +147,7 @@ module _ (m n : ℕ) (mt : m ≤ temporary) where
   not_strange x (inr h) = lt-leb (temporary + n) x (omega arith)
 
   names_none : (e : Edit) → Knows m n e → names_strange n e ≡ false
-  names_none (mkdir x p o) k = or_from _ _ (not_strange x k.0) (not_strange p k.1)
-  names_none (create x p o) k = or_from _ _ (not_strange x k.0) (not_strange p k.1)
-  names_none (store x c e) k = not_strange x k.0
-  names_none (remove x p o e) k = or_from _ _ (not_strange x k.0) (not_strange p k.1)
-  names_none (rmdir x p o) k = or_from _ _ (not_strange x k.0) (not_strange p k.1)
-  names_none (rename x p o q r) k = or_from _ _ (not_strange x k.0) (or_from _ _ (not_strange p k.1) (not_strange q k.2))
+  names_none e k = search rules
 
   pub log_known : (rs : List Record) → AllByRecursion (λ r. Knows m n r.edit) rs → none_strange n rs ≡ true
   log_known [] k = refl

@@ -3,9 +3,12 @@
 --     Saw Old l p      the stamps of what was seen are old, and what was seen agrees with the server's objects l
 --     Gone             the log awaits of older files what the list does, and that is what was seen
 --     Told w ps        so for each loader of w
-use Rattle.std.proofs.Common.{◌≡◌, ℕ, ◌<◌, ◌≤◌, Bool, true, false, cond, eqb, List, [], ◌∷◌, take, Some, None, Option, sym, refl, ap, ◌∙◌, subst, arith}
+use Rattle.std.proofs.Common.{◌≡◌, ℕ, ◌<◌, ◌≤◌, Bool, true, false, eqb, List, [], ◌∷◌, take, Some, None, sym, refl, ◌∙◌, subst, arith}
 use Rattle.std.specs.List.{AllByRecursion}
+use Rattle.std.proofs.ByRecursion.{All-weaker}
 use Rattle.std.proofs.lemmas.Bool.{eqb-true, eqb-false, eq-eqb, ne_eqb, cond-true, cond-false}
+use Rattle.std.proofs.lemmas.Bool.Decides.{nat_tests}
+use Rattle.std.proofs.lemmas.Option.{none-some}
 use Rattle.model.specs.Loaders.{Loader, Spell as Stay, State, away, home}
 use Rattle.model.specs.Past.{Past, Pasts, put_past, shadow}
 use Rattle.model.specs.Records.{Record}
@@ -14,7 +17,6 @@ use Rattle.tree.specs.Trees.{Object, Tree}
 use Rattle.vocab.specs.declared.stamp.Stamp.{Stamp}
 use Rattle.vocab.specs.Limits.{temporary}
 use Rattle.law.proofs.Awaiting.{awaited}
-use Rattle.law.proofs.Settle.{all_weaker}
 use Rattle.law.proofs.Stamping.{Agree, Has, Late, Spans, Used}
 
 abbrev pub level : State → ℕ → ℕ
@@ -52,7 +54,7 @@ Moves Was l k = (seen : List Object) → Used Was seen → Agree seen l → Agre
 
 module _ (Was Now : Stamp → Type 0) (grow : (s : Stamp) → Was s → Now s) (l k : List Object) (move : Moves Was l k) where
   saw_later : (p : Past) → Saw Was l p → Saw Now k p
-  saw_later p g = record { stale = all_weaker (λ o. Was o.stamp) (λ o. Now o.stamp) (λ o h. grow o.stamp h) p.seen g.stale; agree = move p.seen g.stale g.agree }
+  saw_later p g = record { stale = All-weaker (λ o. Was o.stamp) (λ o. Now o.stamp) (λ o h. grow o.stamp h) p.seen g.stale; agree = move p.seen g.stale g.agree }
 
   pub told_later : (a serial cap : ℕ) (memory : List Record) (p : Past) (r : State) → ToldIn Was l a serial cap memory p r → ToldIn Now k a serial cap memory p r
   told_later a serial cap memory p (home b) h = λ e. saw_later p (h e)
@@ -61,37 +63,19 @@ module _ (Was Now : Stamp → Type 0) (grow : (s : Stamp) → Was s → Now s) (
 -- ---- one loader in another's place
 
 pub put_own : (e : Loader) (ds : List Loader) (f : Loader) → loader_of e.number (with_loader e ds) ≡ Some f → f ≡ e
-put_own e [] f h = let z : ◌≡◌ {A = ℕ} 0 1 = cc in absurd (omega arith)
-put_own e (d ∷ ds) f h = go (put_own e ds f) (eqb d.number e.number) refl h
-  where
-    go : (loader_of e.number (with_loader e ds) ≡ Some f → f ≡ e) → (t : Bool) → eqb d.number e.number ≡ t → cond (eqb (cond t e d).number e.number) (Some (cond t e d)) (loader_of e.number (with_loader e ds)) ≡ Some f → f ≡ e
-    go ih true g h =
-        let k : ◌≡◌ {A = Option Loader} (Some e) (Some f) = sym (cond-true (eqb e.number e.number) (Some e) (loader_of e.number (with_loader e ds)) (eq-eqb e.number e.number refl)) ∙ h in
-        cc
-    go ih false g h = ih (sym (cond-false (eqb d.number e.number) (Some d) (loader_of e.number (with_loader e ds)) g) ∙ h)
+put_own e [] f h = absurd (none-some f h)
+put_own e (d ∷ ds) f h = let ih = put_own e ds f in grind (arith, nat_tests)
 
 put_other : (e : Loader) (b : ℕ) → (b ≡ e.number → ⊥) → (ds : List Loader) → loader_of b (with_loader e ds) ≡ loader_of b ds
 put_other e b ne [] = refl
-put_other e b ne (d ∷ ds) = go (put_other e b ne ds) (eqb d.number e.number) refl
-  where
-    go : loader_of b (with_loader e ds) ≡ loader_of b ds → (t : Bool) → eqb d.number e.number ≡ t → cond (eqb (cond t e d).number b) (Some (cond t e d)) (loader_of b (with_loader e ds)) ≡ cond (eqb d.number b) (Some d) (loader_of b ds)
-    go ih true f = cond-false (eqb e.number b) _ _ (ne_eqb e.number b (λ z. ne (sym z))) ∙ ih ∙ sym (cond-false (eqb d.number b) _ _ (ne_eqb d.number b (λ z. ne (sym z ∙ eqb-true d.number e.number f))))
-    go ih false f = ap (cond (eqb d.number b) (Some d)) ih
+put_other e b ne (d ∷ ds) = let ih = put_other e b ne ds in grind (arith, nat_tests, ne)
 
 module _ (w : World) (ps : Pasts) (h : Told w ps) (a : ℕ) (d : Loader) (there : loader_of a w.loaders ≡ Some d) (e : Loader) (mine : e.number ≡ a) (u : Tree) (le : w.server.next ≤ u.next) (up : level d.state d.serial ≤ level e.state e.serial) where
   abbrev v : World
   v = put_loader e (put_server u w)
 
   pub grow : (s : Stamp) → Old w s → Old v s
-  grow s k = (λ z. omega (arith, k.0 z), λ f t. go f t (eqb s.author e.number) refl)
-    where
-      go : (f : Loader) → loader_of s.author (with_loader e w.loaders) ≡ Some f → (b : Bool) → eqb s.author e.number ≡ b → s.serial ≤ level f.state f.serial
-      go f t true g =
-          let is = eqb-true s.author e.number g in
-          let same : f ≡ e = put_own e w.loaders f (subst (λ z. loader_of z (with_loader e w.loaders) ≡ Some f) is t) in
-          let low : s.serial ≤ level d.state d.serial = k.1 d (ap (λ z. loader_of z w.loaders) (is ∙ mine) ∙ there) in
-          subst (λ z. s.serial ≤ level z.state z.serial) (sym same) (omega arith)
-      go f t false g = k.1 f (sym (put_other e s.author (eqb-false s.author e.number g) w.loaders) ∙ t)
+  grow s k = grind (arith, nat_tests, put_own, put_other)
 
   pub put_told : (qs : Pasts) → Moves (Old w) w.server.objects u.objects → Used (Old v) u.objects → Tells (Old v) u.objects a e (qs a) → ((b : ℕ) → (b ≡ a → ⊥) → qs b ≡ ps b) → Told v qs
   put_told qs move used own same = record { old = used; each = λ b f t. go b f t (eqb b e.number) refl }
@@ -111,7 +95,7 @@ module _ (w : World) (ps : Pasts) (h : Told w ps) (a : ℕ) (d : Loader) (there 
   grows = grow w ps h a d there e mine w.server (omega arith) up
 
   pub put_here : (qs : Pasts) → Tells (Old (put_loader e w)) w.server.objects a e (qs a) → ((b : ℕ) → (b ≡ a → ⊥) → qs b ≡ ps b) → Told (put_loader e w) qs
-  put_here qs own same = put_told w ps h a d there e mine w.server (omega arith) up qs (λ seen k g. g) (all_weaker (λ o. Old w o.stamp) (λ o. Old (put_loader e w) o.stamp) (λ o k. grows o.stamp k) w.server.objects h.old) own same
+  put_here qs own same = put_told w ps h a d there e mine w.server (omega arith) up qs (λ seen k g. g) (All-weaker (λ o. Old w o.stamp) (λ o. Old (put_loader e w) o.stamp) (λ o k. grows o.stamp k) w.server.objects h.old) own same
 
   pub put_past_here : (p : Past) → Tells (Old (put_loader e w)) w.server.objects a e p → Told (put_loader e w) (put_past a p ps)
   put_past_here p own = put_here (put_past a p ps) (subst (Tells (Old (put_loader e w)) w.server.objects a e) (sym (cond-true (eqb a a) p (ps a) (eq-eqb a a refl))) own) (λ b ne. cond-false (eqb b a) p (ps b) (ne_eqb b a ne))

@@ -1,15 +1,15 @@
 -- Every turn keeps what holds in every run. Assumes nothing.
 use Rattle.std.proofs.Common.{◌≡◌, ℕ, ◌+◌, ◌<◌, ◌≤◌, Bool, true, false, ◌||◌, leb, List, [], ◌∷◌, ◌++◌, length, Some, None, Ok, Err, Option, Result, sym, refl, ap, ◌∙◌, subst, inl, inr, arith}
-use Rattle.std.proofs.lemmas.Bool.{leb-true, cond-true}
-use Rattle.model.specs.declared.answer.Answer.{Answer}
+use Rattle.std.proofs.ByRecursion.{All-weaker}
+use Rattle.std.proofs.lemmas.Bool.{leb-true}
 use Rattle.model.specs.declared.answer.Fault.{Fault}
+use Rattle.model.specs.declared.answer.Reply.TheVariants.{Done}
 use Rattle.model.specs.Hoard.{kept_in, ranked, walked}
-use Rattle.model.specs.Loaders.{Loader, Spell as Stay, away, comes_home, edited, guard, home, joins, leaves, log, new_record, settled_join, walk_done, walks, with_edit_done, with_state}
+use Rattle.model.specs.Loaders.{Loader, Spell as Stay, away, comes_home, edited, guard, home, joins, leaves, log, settled_join, walk_done, walks, with_edit_done, with_state}
 use Rattle.model.specs.Office.{Call, called}
 use Rattle.model.specs.Past.{Past, Pasts, capacity_of, listed, new_past, past_after, pasts, put_past, walk_tree}
-use Rattle.model.specs.Records.{object}
 use Rattle.model.specs.Replaying.{Clash, Outcome, replay}
-use Rattle.model.specs.Worlds.{Turn, World, accepted, done_answer, edit, edit_answer, join, leave, loader_of, made_by, office, office_read, own_stamp, put_loader, quit, rank, read, read_done, reads_away, reads_home, run, step, walk, with_hoard}
+use Rattle.model.specs.Worlds.{Answer, Turn, World, call_answer, edit, join, leave, loader_of, made_by, office, office_read, own_stamp, put_loader, quit, rank, read, read_done, reads_away, reads_home, run, step, walk, with_hoard}
 use Rattle.tree.specs.Questions.{held, is_file}
 use Rattle.tree.specs.Trees.{Tree, at}
 use Rattle.vocab.specs.declared.layer.Layer.TheVariants.{Copy, Loader as LoaderLayer, Server}
@@ -18,12 +18,11 @@ use Rattle.vocab.specs.Checks.{Check, check}
 use Rattle.vocab.specs.Limits.{temporary}
 use Rattle.law.specs.Guarantees.{Start, new_pasts}
 use Rattle.law.proofs.Alike.{like_partly}
-use Rattle.law.proofs.Editing.{edit_fits, edit_ways, made_accepted}
+use Rattle.law.proofs.Editing.{edit_fits, edit_ways}
 use Rattle.law.proofs.Finding.{by_keeps, state_keeps}
 use Rattle.law.proofs.Guarding.{guard_ways, join_ways, joined_world}
 use Rattle.law.proofs.Lost.{placed_under}
 use Rattle.law.proofs.Sane.{Fit, In, Out, Ready, Sane, guard_keeps, later, not_ready, own, put_both, put_new, put_one}
-use Rattle.law.proofs.Settle.{all_weaker}
 use Rattle.law.proofs.Sound.{sound_begin}
 use Rattle.law.proofs.Standing.{office_stands, replay_stands}
 
@@ -55,7 +54,7 @@ module _ (w : World) (ps : Pasts) (sane : Sane w ps) (a : ℕ) (d : Loader) (the
   same_sane : Sane (put_loader d w) ps
   same_sane = put_one w ps sane a d mine fit
 
-  walk_sane : (k : ℕ) → let z = walks w.policy k w.server d in Sane (put_loader z.0 w) (past_after (walk a k) w (done_answer z.1) ps)
+  walk_sane : (k : ℕ) → let z = walks w.policy k w.server d in Sane (put_loader z.0 w) (past_after (walk a k) w (call_answer (λ _. Done) z.1) ps)
   walk_sane k = elim (guard_ways LoaderLayer cs d done) [
     | inl g ↦ subst P (sym g.1) (put_new w ps sane a done.0 mine p (fit.0, λ e. record { from = t.next; above = omega (arith, sane.server.low); early = omega arith; top = sane.server.high; seen = sane.server.under; like = like_partly (walked w.policy d.hoard t.objects) t.objects }))
     | inr g ↦ subst P (sym g.1) same_sane
@@ -74,9 +73,9 @@ module _ (w : World) (ps : Pasts) (sane : Sane w ps) (a : ℕ) (d : Loader) (the
       done = (walk_done w.policy w.server d, Ok tt)
 
       P : Loader × Result (Unit {0}) Fault → Type 0
-      P z = Sane (put_loader z.0 w) (past_after (walk a k) w (done_answer z.1) ps)
+      P z = Sane (put_loader z.0 w) (past_after (walk a k) w (call_answer (λ _. Done) z.1) ps)
 
-  leave_sane : (b : Bool) → d.state ≡ home b → Sane (put_loader (leaves b d).0 w) (past_after (leave a) w (done_answer (leaves b d).1) ps)
+  leave_sane : (b : Bool) → d.state ≡ home b → Sane (put_loader (leaves b d).0 w) (past_after (leave a) w (call_answer (λ _. Done) (leaves b d).1) ps)
   leave_sane b here = elim (guard_ways LoaderLayer (check b NotWalked ∷ []) d done) [
     | inl g ↦ subst P (sym g.1) (put_new w ps sane a gone mine p (fit.0, out (ready g.0.0)))
     | inr g ↦ subst P (sym g.1) same_sane
@@ -95,7 +94,7 @@ module _ (w : World) (ps : Pasts) (sane : Sane w ps) (a : ℕ) (d : Loader) (the
       done = (gone, Ok tt)
 
       P : Loader × Result (Unit {0}) Fault → Type 0
-      P z = Sane (put_loader z.0 w) (past_after (leave a) w (done_answer z.1) ps)
+      P z = Sane (put_loader z.0 w) (past_after (leave a) w (call_answer (λ _. Done) z.1) ps)
 
       out : Ready w.server.next d.copy (ps a) → Out w.server.next d.copy d.memory (record { seen = (ps a).seen; list = []; edits = (ps a).edits }) (record { maker = d.number; base = d.serial; count = 0; given = 0 })
       out r = record {
@@ -118,9 +117,9 @@ module _ (w : World) (ps : Pasts) (sane : Sane w ps) (a : ℕ) (d : Loader) (the
 
   -- ---- turns away
 
-  edit_sane : (s : Stay) → d.state ≡ away s → (c : Call) (k : ℕ) → Sane (put_loader (edited s c k d).0 w) (past_after (edit a c k) w (edit_answer c (edited s c k d).1) ps)
+  edit_sane : (s : Stay) → d.state ≡ away s → (c : Call) (k : ℕ) → Sane (put_loader (edited s c k d).0 w) (past_after (edit a c k) w (call_answer (made_by c) (edited s c k d).1) ps)
   edit_sane s gone c k = elim (edit_ways s c k d) [
-    | inl g ↦ subst P (sym g.1) (subst (Sane (put_loader (with_edit_done s c d) w)) (sym (cond-true (accepted (made_by c (object (new_record s c d).edit))) _ _ (made_accepted c (object (new_record s c d).edit)))) (subst Q (sym roomy) (put_new w ps sane a (with_edit_done s c d) mine _ (edit_fits w.server.next a d s c (ps a) mine fit.0 out g.0))))
+    | inl g ↦ subst P (sym g.1) (subst Q (sym roomy) (put_new w ps sane a (with_edit_done s c d) mine _ (edit_fits w.server.next a d s c (ps a) mine fit.0 out g.0)))
     | inr g ↦ subst P (sym g.1) same_sane
   ]
     where
@@ -131,7 +130,7 @@ module _ (w : World) (ps : Pasts) (sane : Sane w ps) (a : ℕ) (d : Loader) (the
       roomy = ap (λ (r : Option Loader). let z : ℕ = elim r [ None ↦ 0 | Some d ↦ d.copy.capacity ] in z) there
 
       P : Loader × Result ℕ Fault → Type 0
-      P z = Sane (put_loader z.0 w) (past_after (edit a c k) w (edit_answer c z.1) ps)
+      P z = Sane (put_loader z.0 w) (past_after (edit a c k) w (call_answer (made_by c) z.1) ps)
 
       Q : ℕ → Type 0
       Q room = Sane (put_loader (with_edit_done s c d) w) (put_past a (record { seen = (ps a).seen; list = (ps a).list ++ (listed a room c (ps a) ∷ []); edits = (ps a).edits + 1 }) ps)
@@ -162,7 +161,7 @@ Left t w ps z = Sane z.0 (past_after t w z.1 ps)
 pub step_sane : (t : Turn) (w : World) (ps : Pasts) → Sane w ps → Left t w ps (step t w)
 step_sane (office c) w ps h =
     let g = office_stands w.server h.server c in
-    record { server = g.0; differ = h.differ; each = all_weaker (λ d. Fit w.server.next d (ps d.number)) (λ d. Fit (called c w.server).0.next d (ps d.number)) (λ d k. (k.0, later w.server.next (called c w.server).0.next g.1 d.copy d.memory (ps d.number) d.state k.1)) w.loaders h.each }
+    record { server = g.0; differ = h.differ; each = All-weaker (λ d. Fit w.server.next d (ps d.number)) (λ d. Fit (called c w.server).0.next d (ps d.number)) (λ d k. (k.0, later w.server.next (called c w.server).0.next g.1 d.copy d.memory (ps d.number) d.state k.1)) w.loaders h.each }
 step_sane (office_read x k) w ps h = h
 step_sane (rank a x r) w ps h =
     let P = Left (rank a x r) w ps in
@@ -194,5 +193,5 @@ pub sane_run : (w : World) → Start w → (ts : List Turn) → Sane (run ts w) 
 sane_run w start ts = run_sane ts w new_pasts (record {
   server = record { under = start.numbers; low = start.low; high = start.high };
   differ = start.differ;
-  each = all_weaker (λ d. (d.serial ≡ 0) × (d.state ≡ home false) × (0 < d.number)) (λ d. Fit w.server.next d new_past) (λ d h. (h.0, subst (In w.server.next d.copy d.memory new_past) (sym h.1) (not_ready w.server.next d.copy new_past))) w.loaders start.new;
+  each = All-weaker (λ d. (d.serial ≡ 0) × (d.state ≡ home false) × (0 < d.number)) (λ d. Fit w.server.next d new_past) (λ d h. (h.0, subst (In w.server.next d.copy d.memory new_past) (sym h.1) (not_ready w.server.next d.copy new_past))) w.loaders start.new;
 })

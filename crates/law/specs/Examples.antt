@@ -15,13 +15,14 @@ use Rattle.vocab.specs.declared.layer.Layer.TheVariants.{Loader as LoaderLayer}
 use Rattle.vocab.specs.Limits.{temporary}
 use Rattle.tree.specs.Law.{empty}
 use Rattle.tree.specs.Trees.{Object, Tree, at, file}
-use Rattle.model.specs.declared.answer.Answer.TheVariants.{Records, Refused, Conflicting}
+use Rattle.model.specs.declared.answer.Reply.TheVariants.{Records}
+use Rattle.model.specs.declared.answer.TurnError.TheVariants.{Conflicting}
 use Rattle.model.specs.Records.{Record, create, mkdir, store}
 use Rattle.model.specs.Replaying.{replay}
 use Rattle.model.specs.Office.{make_file, store_into}
 use Rattle.model.specs.Hoard.{plain}
 use Rattle.model.specs.Loaders.{Spell, home, away, Loader, log, new_loader}
-use Rattle.model.specs.Worlds.{World, Turn, office, walk, leave, edit, join, loader_of, run, step}
+use Rattle.model.specs.Worlds.{World, Turn, office, walk, leave, edit, join, loader_of, refused, run, step}
 use Rattle.model.specs.Past.{Past, given_by, pasts}
 use Rattle.law.specs.Guarantees.{Away, Start, new_pasts, touched}
 
@@ -88,14 +89,14 @@ pub record WorkedRuns : Type 0 where
   pub starts : Start begin
   -- a join of two records that replaces a file the server had, and makes another
   pub list_passes : replay (given_by (pasts monday begin new_pasts 1).list) (pasts monday begin new_pasts 1).list (run monday begin).server ≡ Ok joined
-  pub join_passes : (step (join 1 4 2) (run monday begin)).1 ≡ Records 2
+  pub join_passes : (step (join 1 4 2) (run monday begin)).1 ≡ Ok (Records 2)
   pub join_leaves : (step (join 1 4 2) (run monday begin)).0.server ≡ joined
   -- a conflict at the second record: the first is applied, and nothing is changed
-  pub conflicts : (step (join 1 4 2) (run meanwhile begin)).1 ≡ Conflicting (record { refusal = StampDiffers; serial = 2; object = record { 0 = 2 } })
+  pub conflicts : (step (join 1 4 2) (run meanwhile begin)).1 ≡ Err (Conflicting (record { refusal = StampDiffers; serial = 2; object = 2 }))
   pub nothing_changed : (step (join 1 4 2) (run meanwhile begin)).0 ≡ run meanwhile begin
   -- the server's last number is given, and no more
   pub last_number : (step (join 1 4 2) (run one_file (begin_at (temporary - 1)))).0.server.next ≡ temporary
-  pub no_number : (step (join 1 4 2) (run two_files (begin_at (temporary - 1)))).1 ≡ Refused (record { refusal = NumbersSpent; layer = LoaderLayer })
+  pub no_number : (step (join 1 4 2) (run two_files (begin_at (temporary - 1)))).1 ≡ refused LoaderLayer NumbersSpent
 
 -- what the worked joins come through
 pub record WorkedJoins : Type 0 where
@@ -144,7 +145,7 @@ past_two n = pasts (wednesday n) (renewed n (run tuesday two)) (pasts tuesday tw
 pub record NumberGivenAgainOverwrites : Type 0 where
   pub starts : Start two
   pub is_away : (d : Loader) × (s : Spell) × Away 2 (before_join 1) d s
-  pub join_passes : (step (join 2 4 1) (before_join 1)).1 ≡ Records 1
+  pub join_passes : (step (join 2 4 1) (before_join 1)).1 ≡ Ok (Records 1)
   pub file_touched : touched 2 (past_two 1).list ≡ true
   pub file_there : at 2 (before_join 1).server.objects ≡ Some (object_of 2 a 1 1 (b ++ a))
   pub file_seen : at 2 (past_two 1).seen ≡ Some (object_of 2 a 1 1 b)
@@ -152,4 +153,4 @@ pub record NumberGivenAgainOverwrites : Type 0 where
   pub unseen : (o : Object) → at 2 (before_join 1).server.objects ≡ Some o → ((q : Object) × (at 2 (past_two 1).seen ≡ Some q) × (q.body ≡ o.body)) → ⊥
   pub overwritten : (step (join 2 4 1) (before_join 1)).0.server.objects ≡ object_of 2 a 2 1 (a ++ b) ∷ []
   -- had it a number of its own, there would be a conflict
-  pub other_number : (step (join 2 4 1) (before_join 3)).1 ≡ Conflicting (record { refusal = StampDiffers; serial = 1; object = record { 0 = 2 } })
+  pub other_number : (step (join 2 4 1) (before_join 3)).1 ≡ Err (Conflicting (record { refusal = StampDiffers; serial = 1; object = 2 }))

@@ -8,8 +8,9 @@ use Rattle.std.specs.List.{AllByRecursion}
 use Rattle.vocab.specs.Limits.{temporary}
 use Rattle.tree.specs.Questions.{regular}
 use Rattle.tree.specs.Trees.{Object, Tree, at, some_of}
-use Rattle.model.specs.declared.answer.Answer.TheVariants.{Records, Conflicting}
 use Rattle.model.specs.declared.answer.Conflict.{Conflict}
+use Rattle.model.specs.declared.answer.Reply.TheVariants.{Records}
+use Rattle.model.specs.declared.answer.TurnError.TheVariants.{Conflicting}
 use Rattle.model.specs.Records.{Record, object, removes, stores}
 use Rattle.model.specs.Applying.{applied}
 use Rattle.model.specs.Replaying.{replay, replayed, settled}
@@ -45,7 +46,7 @@ JoinFollowsTheEdits =
     → let v = run ts w in let us = (pasts ts w new_pasts a).list in
     (k u : ℕ) → s.count ≤ lent k d → s.count ≤ u → v.server.next + given_by us ≤ temporary
     → (t : Tree) → replay (given_by us) us v.server ≡ Ok t
-    → step (join a k u) v ≡ (put_loader (comes_home d) (put_server t v), Records s.count)
+    → step (join a k u) v ≡ (put_loader (comes_home d) (put_server t v), Ok (Records s.count))
 
 -- a join that is not accepted leaves the whole world as it was
 abbrev pub RefusedJoinChangesNothing : Type 0
@@ -56,13 +57,13 @@ RefusedJoinChangesNothing =
 -- a conflict names the first record of the log that fails: those before it pass, and this one fails with just this refusal
 abbrev pub ConflictNamesFirstFailure : Type 0
 ConflictNamesFirstFailure =
-    (w : World) (a : ℕ) (d : Loader) (s : Spell) → Away a w d s → (k u : ℕ) (c : Conflict) → (step (join a k u) w).1 ≡ Conflicting c
+    (w : World) (a : ℕ) (d : Loader) (s : Spell) → Away a w d s → (k u : ℕ) (c : Conflict) → (step (join a k u) w).1 ≡ Err (Conflicting c)
     → (rs : List Record) × (r : Record) × (qs : List Record) × (t : Tree)
     × (log s d ≡ rs ++ (r ∷ qs))
     × (replayed w.server.next s.given rs w.server ≡ Ok t)
     × ((applied (settled w.server.next s.given r) t).1 ≡ Err c.refusal)
     × (c.serial ≡ r.serial)
-    × (c.object.0 ≡ object r.edit)
+    × (c.object ≡ object r.edit)
 
 -- in every run every number on the server is below its next number, itself at most 2^31, so that none is temporary
 abbrev pub ServerNumbersStayBelow : Type 0
@@ -85,7 +86,7 @@ abbrev pub JoinOverwritesOnlyWhatWasSeen : Type 0
 JoinOverwritesOnlyWhatWasSeen =
     (w : World) → Start w → (ts : List Turn) (a : ℕ) (d : Loader) (s : Spell) → Away a (run ts w) d s
     → let v = run ts w in let p = pasts ts w new_pasts a in
-    (k u n : ℕ) → (step (join a k u) v).1 ≡ Records n
+    (k u n : ℕ) → (step (join a k u) v).1 ≡ Ok (Records n)
     → (x : ℕ) (o : Object) → at x v.server.objects ≡ Some o → touched x p.list ≡ true
     → (q : Object) × (at x p.seen ≡ Some q) × (q.body ≡ o.body)
 
@@ -94,7 +95,7 @@ abbrev pub JoinTouchesOnlyWhatIsListed : Type 0
 JoinTouchesOnlyWhatIsListed =
     (w : World) → Start w → (ts : List Turn) (a : ℕ) (d : Loader) (s : Spell) → Away a (run ts w) d s
     → let v = run ts w in let p = pasts ts w new_pasts a in
-    (k u n : ℕ) → (step (join a k u) v).1 ≡ Records n
+    (k u n : ℕ) → (step (join a k u) v).1 ≡ Ok (Records n)
     → (x : ℕ) (o : Object) → at x v.server.objects ≡ Some o → regular o ≡ true → touched x p.list ≡ false
     → (q : Object) × (at x (step (join a k u) v).0.server.objects ≡ Some q) × (q.body ≡ o.body) × (q.stamp ≡ o.stamp)
 

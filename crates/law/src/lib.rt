@@ -8,22 +8,18 @@ ghost use Rattle.law.specs.Guarantees.{ServerNumbersStayBelow, StateAgreesWithTh
 ghost use Rattle.law.specs.Theorems.{CancellingLosesNothing};
 ghost use Rattle.law.specs.Theorems.{CountGrows, CopyGrows, SpellGrows, LogGrows};
 
-pub fn cancelling_loses_nothing() -> u8
+pub fn cancelling_loses_nothing()
     ensures { CancellingLosesNothing }
-{
-    0
-}
+{}
 
-pub fn spells_grow_by_one_record() -> u8
+pub fn spells_grow_by_one_record()
     ensures count { CountGrows }
     ensures copy { CopyGrows }
     ensures spell { SpellGrows }
     ensures log { LogGrows }
-{
-    0
-}
+{}
 
-pub fn joins_keep_their_guarantees() -> u8
+pub fn joins_keep_their_guarantees()
     ensures follows { JoinFollowsTheEdits }
     ensures refused { RefusedJoinChangesNothing }
     ensures conflict { ConflictNamesFirstFailure }
@@ -32,27 +28,19 @@ pub fn joins_keep_their_guarantees() -> u8
     ensures log { LogKnowsItsNumbers }
     ensures seen { JoinOverwritesOnlyWhatWasSeen }
     ensures listed { JoinTouchesOnlyWhatIsListed }
-{
-    0
-}
+{}
 
 // The premises of the guarantees can be met.
-pub fn runs_compute() -> u8
+pub fn runs_compute()
     ensures { WorkedRuns }
-{
-    0
-}
+{}
 
 // What the records of the worked joins do one by one.
-pub fn joins_compute() -> u8
+pub fn joins_compute()
     ensures { WorkedJoins }
-{
-    0
-}
+{}
 
 // Why no two loaders of a run may have one number, not even one after the other.
-pub fn a_number_given_again_overwrites() -> u8
+pub fn a_number_given_again_overwrites()
     ensures { NumberGivenAgainOverwrites }
-{
-    0
-}
+{}

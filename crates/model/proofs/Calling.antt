@@ -1,15 +1,15 @@
 -- The office's calls on a lawful tree. Assumes nothing.
-use Rattle.std.proofs.Common.{◌≡◌, ℕ, suc, ◌<◌, Bool, true, false, eqb, List, [], ◌∷◌, Some, None, Option, sym, refl, ap, ◌∙◌, ⊎_elim, arith, rules}
-use Rattle.std.proofs.lemmas.Bool.{both_ways, or_cases, and_from, eqb-true, eq-eqb, cases_Bool, cond-true}
+use Rattle.std.proofs.Common.{◌≡◌, ℕ, suc, ◌<◌, Bool, true, false, eqb, List, [], ◌∷◌, Some, None, sym, refl, ap, ◌∙◌, ⊎_elim, arith, rules}
+use Rattle.std.proofs.lemmas.Bool.{both_ways, or_cases, eqb-true, eq-eqb, cases_Bool, cond-true}
+use Rattle.std.proofs.lemmas.Bool.Decides.{nat_tests}
 use Rattle.tree.specs.Law.{Lawful}
-use Rattle.tree.specs.Questions.{child_of, dir_at, has_child, is_dir, is_file, is_some, look}
+use Rattle.tree.specs.Questions.{child_of, dir_at, has_child, is_dir, is_file, is_some}
 use Rattle.tree.specs.Trees.{Ascends, Object, Tree, at, is, some_of}
 use Rattle.tree.proofs.Ascending.{at_low, at_tail}
-use Rattle.tree.proofs.Changed.{dir_file, file_some}
+use Rattle.tree.proofs.Changed.{dir_file, file_some, dir_some}
 use Rattle.tree.proofs.Means.{look_given}
-use Rattle.vocab.specs.declared.stamp.Stamp.{Stamp}
 use Rattle.vocab.specs.Checks.{judge}
-use Rattle.model.specs.Applying.{same_stamp, stamped, stands}
+use Rattle.model.specs.Applying.{stamped, stands}
 use Rattle.model.specs.Office.{Call, bound, called, called_checks, called_tree, make_directory, make_file, remove_directory, remove_file, rename_object, stamp_at, store_into}
 
 -- ---- what holds of a bound name, and of a file
@@ -22,30 +22,15 @@ some_stands q n (p ∷ l) r h = go (some_stands q (suc p.number) l r.1) (q p) re
     go ih true e = (p.number, p, cond-true (is p.number p) _ _ (eq-eqb p.number p.number refl), e)
     go ih false e = let v = ih (rw e at h) in (v.0, v.1, at_tail v.0 n v.1 p l r v.2, v.3)
 
-same_own : (s : Stamp) → same_stamp s s ≡ true
-same_own s = and_from (eqb s.author s.author) (eqb s.serial s.serial) (eq-eqb s.author s.author refl) (eq-eqb s.serial s.serial refl)
-
 stamped_own : (x : ℕ) (t : Tree) → is_some (at x t.objects) ≡ true → stamped (stamp_at x t) (at x t.objects) ≡ true
-stamped_own x t h = go (at x t.objects) h
-  where
-    go : (r : Option Object) → is_some r ≡ true → stamped (elim r [ None ↦ record { author = 0; serial = 0 } | Some o ↦ o.stamp ]) r ≡ true
-    go None h = h
-    go (Some o) h = same_own o.stamp
-
-dir_some_at : (r : Option Object) → is_dir r ≡ true → is_some r ≡ true
-dir_some_at None h = h
-dir_some_at (Some o) h = refl
+stamped_own x t h = grind (arith, nat_tests)
 
 module _ (t : Tree) (w : Lawful t) where
   absent : (x : ℕ) → x < 2 → at x t.objects ≡ None
   absent x h = at_low x 2 t.objects h w.ascending
 
   bound_stands : (p : ℕ) (n : List ℕ) → is_some (at (bound p n t) t.objects) ≡ true → stands p n (at (bound p n t) t.objects) ≡ true
-  bound_stands p n h = go (look p n t.objects) refl h
-    where
-      go : (r : Option ℕ) → look p n t.objects ≡ r → is_some (at (elim r [ None ↦ 0 | Some x ↦ x ]) t.objects) ≡ true → stands p n (at (elim r [ None ↦ 0 | Some x ↦ x ]) t.objects) ≡ true
-      go None e h = absurd (both_ways (is_some (at 0 t.objects)) (ap is_some (absent 0 (omega arith))) h)
-      go (Some x) e h = let v = look_given p n 2 t.objects w.ascending x e in ap (stands p n) v.1 ∙ v.2
+  bound_stands p n h = grind (arith, nat_tests, absent, look_given)
 
   file_childless : (x : ℕ) → is_file (at x t.objects) ≡ true → has_child x t.objects ≡ false
   file_childless x h = ⊎_elim (λ b. absurd (no_child (some_stands (child_of x) 2 t.objects w.ascending b))) (λ b. b) (cases_Bool (has_child x t.objects))
@@ -83,7 +68,7 @@ module _ (t : Tree) (w : Lawful t) where
   office_order (remove_directory p n) =
       let x = bound p n t in
       ⊎_elim
-      (λ h. let place = bound_stands t w p n (dir_some_at (at x t.objects) h) in search rules)
+      (λ h. let place = bound_stands t w p n (ap is_some (dir_some (at x t.objects) h).1) in search rules)
       (λ h. search rules)
       (cases_Bool (is_dir (at x t.objects)))
   office_order (rename_object p n q m) =

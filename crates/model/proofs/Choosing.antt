@@ -1,15 +1,17 @@
 -- What the sort of the files puts first. Assumes nothing.
-use Rattle.std.proofs.Common.{◌≡◌, ℕ, zero, suc, ◌<◌, min, Bool, true, false, cond, ◌&&◌, ◌||◌, eqb, ltb, ◌⊎◌, List, [], ◌∷◌, map, length, take, Some, None, Option, sym, refl, ap, ◌∙◌, subst, ap₂, inl, inr, ⊎_elim, arith}
+use Rattle.std.proofs.Common.{◌≡◌, ℕ, zero, suc, ◌<◌, min, Bool, true, false, cond, ◌&&◌, ◌||◌, eqb, ltb, ◌⊎◌, List, [], ◌∷◌, length, take, Some, None, Option, sym, refl, ap, ◌∙◌, subst, ap₂, inl, inr, ⊎_elim, arith}
 use Rattle.std.specs.List.{AllByRecursion}
 use Rattle.std.proofs.ByRecursion.{All-take, All-weaker}
 use Rattle.std.proofs.lemmas.List.{length-take}
 use Rattle.std.proofs.lemmas.Bool.{and_parts, cases_order, cond_both, cond-false, cond-true, eqb-true, ltb-true, ne_eqb, or_cases}
 use Rattle.std.proofs.lemmas.Bool.Decides.{nat_tests}
-use Rattle.tree.specs.Questions.{is_some, regular}
-use Rattle.tree.specs.Trees.{Ascends, Object, at, is, keep, some_of}
+use Rattle.tree.specs.Questions.{regular}
+use Rattle.tree.specs.Trees.{Ascends, Object, at, is, keep}
 use Rattle.tree.proofs.Ascending.{ascends_keep, at_keep, at_low, at_tail, only}
-use Rattle.model.specs.Choice.{Apart, FirstSixteen, FirstSixteenAreOneList, GoesBefore, InOrder, KeepsTheFirstSixteen, KeptIsChosen, WalkKeepsTheChosen}
-use Rattle.model.specs.Hoard.{Hoard, Kept, Policy, age, before, chosen, last_use_in, placed_in, priority, rank_of, sorted}
+use Rattle.tree.proofs.Changed.{at_number}
+use Rattle.model.proofs.Each.{all_at, keep_passes}
+use Rattle.model.specs.Choice.{Apart, FirstSixteen, FirstSixteenAreOneList, GoesBefore, InOrder, KeepsTheFirstSixteen}
+use Rattle.model.specs.Hoard.{Hoard, Policy, age, before, chosen, placed_in, priority, rank_of, sorted}
 
 -- ---- objects by number
 
@@ -19,20 +21,6 @@ free_here x o l e = grind (arith, nat_tests)
 all_own : (n : ℕ) (l : List Object) → Ascends n l → AllByRecursion (λ o. at o.number l ≡ Some o) l
 all_own n [] r = tt
 all_own n (o ∷ l) r = (grind (arith, nat_tests), All-weaker _ _ (λ p e. at_tail p.number n p o l r e) l (all_own (suc o.number) l r.1))
-
-all_at : (P : Object → Type 0) (x : ℕ) (p : Object) (l : List Object) → AllByRecursion P l → at x l ≡ Some p → P p
-all_at P x p [] h e = let z : ◌≡◌ {A = ℕ} 0 1 = cc in absurd (omega arith)
-all_at P x p (o ∷ l) h e = let ih = all_at P x p l h.1 in grind (arith, nat_tests, h.0)
-
-at_number : (x : ℕ) (p : Object) (l : List Object) → at x l ≡ Some p → p.number ≡ x
-at_number x p [] e = let z : ◌≡◌ {A = ℕ} 0 1 = cc in absurd (omega arith)
-at_number x p (o ∷ l) e = let ih = at_number x p l in grind (arith, nat_tests)
-
-keep_passes : (P : Object → Type 0) (q : Object → Bool) (l : List Object) → AllByRecursion P l → AllByRecursion (λ o. P o × (q o ≡ true)) (keep q l)
-keep_passes P q [] h = tt
-keep_passes P q (o ∷ l) h =
-    let ih = keep_passes P q l h.1 in
-    cond_both (q o) (o ∷ keep q l) (keep q l) (AllByRecursion (λ o. P o × (q o ≡ true))) (λ e. ((h.0, e), ih)) (λ _. ih)
 
 -- ---- the order
 
@@ -168,7 +156,7 @@ module _ (f : Policy) (h : Hoard) (l : List Object) where
         where
           go : (r : Option Object) → at o.number d ≡ r → (r ≡ Some o) ⊎ AllByRecursion (λ p. GoesBefore f h p o) d
           go None e = inr (w.best o.number o g.0 g.1 e)
-          go (Some q) e = inl (sym (all_at File o.number q d w.files e).0 ∙ ap (λ x. at x l) (at_number o.number q d e) ∙ g.0)
+          go (Some q) e = inl (sym (all_at File o.number q d w.files e).0 ∙ ap (λ x. at x l) (eqb-true q.number o.number (at_number o.number q d e)) ∙ g.0)
 
   -- the head is what goes first
   not_behind : (o p : Object) (d : List Object) → AllByRecursion (GoesBefore f h p) d → (at o.number (p ∷ d) ≡ Some o) ⊎ AllByRecursion (λ q. GoesBefore f h q o) (p ∷ d) → (p ≡ o) ⊎ GoesBefore f h p o
@@ -206,19 +194,3 @@ module _ (f : Policy) (h : Hoard) (l : List Object) where
 
 pub are_one_list : FirstSixteenAreOneList
 are_one_list f h l c d u v = one_list f h l c d (u.count ∙ sym v.count) u.ordered v.ordered (within f h l c d v u.files) (within f h l d c u v.files)
-
--- ---- the walked hoard
-
-same_numbers : (g : Object → ℕ) (c : List Object) → map (λ (k : Kept). k.number) (map (λ o. record { number = o.number; last_use = g o }) c) ≡ map (λ o. o.number) c
-same_numbers g [] = refl
-same_numbers g (o ∷ c) = ap (λ z. o.number ∷ z) (same_numbers g c)
-
-pub walk_keeps : WalkKeepsTheChosen
-walk_keeps f h l = same_numbers (λ o. last_use_in h.kept o.number h.uses) (chosen f h l)
-
-some_same : (g : Object → ℕ) (x : ℕ) (c : List Object) → some_of (λ (k : Kept). eqb k.number x) (map (λ o. record { number = o.number; last_use = g o }) c) ≡ is_some (at x c)
-some_same g x [] = refl
-some_same g x (o ∷ c) = let ih = some_same g x c in grind (arith, nat_tests)
-
-pub kept_chosen : KeptIsChosen
-kept_chosen f h l x = some_same (λ o. last_use_in h.kept o.number h.uses) x (chosen f h l)

@@ -1,4 +1,5 @@
 pub mod Ordering
+pub mod Each
 pub mod Choosing
 pub mod Calling
 pub mod Serving

@@ -1,6 +1,6 @@
 -- What records and the office's calls keep: the law of trees, and numbers below the next one. Assumes nothing.
-use Rattle.std.proofs.Common.{◌≡◌, ℕ, ◌+◌, ◌^◌, ◌<◌, ◌≤◌, Bool, true, false, cond, List, [], ◌∷◌, Ok, Err, Result, sym, refl, ap, ◌∙◌, subst, ⊎_elim, arith}
-use Rattle.std.proofs.lemmas.Bool.{both_ways, cases_eq, ltb-true}
+use Rattle.std.proofs.Common.{◌≡◌, ℕ, ◌+◌, ◌^◌, ◌<◌, ◌≤◌, true, List, [], ◌∷◌, Ok, Err, Result, sym, refl, ap, ◌∙◌, subst, ⊎_elim, arith, rules}
+use Rattle.std.proofs.lemmas.Bool.{cases_eq, cond_both}
 use Rattle.tree.specs.Changes.{Changed, added, dropped, fresh, moved, put, with_contents, with_next, with_place}
 use Rattle.tree.specs.Law.{Lawful, StampFits}
 use Rattle.tree.specs.Questions.{is_some}
@@ -17,19 +17,14 @@ use Rattle.vocab.specs.Checks.{Check, Holds, judge}
 use Rattle.vocab.specs.Limits.{temporary}
 use Rattle.vocab.proofs.Judging.{judge_keeps}
 use Rattle.model.specs.Applying.{all_checks, applied, asked, effect, first_check, own_checks}
-use Rattle.model.specs.Cases.{b}
-use Rattle.model.specs.Office.{Call, call_checks, called, edit_of, make_directory, make_file, office_record, raised, remove_directory, remove_file, rename_object, spends, store_into}
+use Rattle.model.specs.Office.{Call, call_checks, called, edit_of, office_record, raised, spends}
 use Rattle.model.specs.Records.{Edit, Record, create, makes, mkdir, object, remove, rename, rmdir, stamp_of, store}
 use Rattle.model.specs.Theorems.{NumbersBelowNext}
 use Rattle.model.proofs.Ordering.{applied_in_order}
 
 pub first_keeps : (P : Tree → Type 0) (cs : List Check) (t : Tree) (c : Changed) → P t → (Holds cs → P c.0) → P (first_check cs t c).0
 first_keeps P [] t c p q = q tt
-first_keeps P (k ∷ cs) t c p q = go (first_keeps P cs t c p) k.holds refl
-  where
-    go : ((Holds cs → P c.0) → P (first_check cs t c).0) → (b : Bool) → k.holds ≡ b → P (cond k.holds (first_check cs t c) (t, Err k.else)).0
-    go ih true e = rw e (ih (λ h. q (e, h)))
-    go ih false e = rw e p
+first_keeps P (k ∷ cs) t c p q = cond_both k.holds (first_check cs t c) (t, Err k.else) (λ z. P z.0) (λ e. first_keeps P cs t c p (λ h. q (e, h))) (λ _. p)
 
 -- ---- records
 
@@ -72,30 +67,16 @@ raised_lawful : (k : ℕ) (u : Tree) (a : Result (Unit {0}) Refusal) → Lawful 
 raised_lawful k u (Ok z) w h = record { next_low = omega (arith, w.next_low); next_high = h; ascending = w.ascending; each = w.each; names = w.names; room = w.room }
 raised_lawful k u (Err e) w h = w
 
-raised_keeps : (P : Tree → Type 0) (k : ℕ) (cs : List Check) (t u : Tree) → P t → P (with_next u (u.next + k)) → P (raised k (judge cs t (u, tt))).0
-raised_keeps P k [] t u p q = q
-raised_keeps P k (c ∷ cs) t u p q = go (raised_keeps P k cs t u p q) c.holds
-  where
-    go : P (raised k (judge cs t (u, tt))).0 → (b : Bool) → P (raised k (cond b (judge cs t (u, tt)) (t, Err c.else))).0
-    go ih true = ih
-    go ih false = p
+pub raised_keeps : (P : Tree → Type 0) (k : ℕ) (cs : List Check) (t u : Tree) → P t → (Holds cs → P (with_next u (u.next + k))) → P (raised k (judge cs t (u, tt))).0
+raised_keeps P k [] t u p q = q tt
+raised_keeps P k (c ∷ cs) t u p q = cond_both c.holds (judge cs t (u, tt)) (t, Err c.else) (λ z. P (raised k z).0) (λ e. raised_keeps P k cs t u p (λ h. q (e, h))) (λ _. p)
 
 module _ (t : Tree) where
-  room_above : (c : Call) → t.next ≤ temporary → Holds (call_checks c t) → t.next + spends c ≤ temporary
-  room_above (make_directory p n) top h = omega (arith, ltb-true t.next temporary h.1.0)
-  room_above (make_file p n) top h = omega (arith, ltb-true t.next temporary h.1.0)
-  room_above (store_into x c) top h = omega (arith, ltb-true t.next temporary h.1.0)
-  room_above (remove_file p n) top h = omega arith
-  room_above (remove_directory p n) top h = omega arith
-  room_above (rename_object p n q m) top h = omega arith
+  pub room_above : (c : Call) → t.next ≤ temporary → Holds (call_checks c t) → t.next + spends c ≤ temporary
+  room_above c top h = search rules
 
   made_next : (c : Call) → makes (edit_of t.next c t) ≡ true → object (edit_of t.next c t) < t.next + spends c
-  made_next (make_directory p n) e = omega arith
-  made_next (make_file p n) e = omega arith
-  made_next (store_into x c) e = absurd (both_ways false refl e)
-  made_next (remove_file p n) e = absurd (both_ways false refl e)
-  made_next (remove_directory p n) e = absurd (both_ways false refl e)
-  made_next (rename_object p n q m) e = absurd (both_ways false refl e)
+  made_next c e = search rules
 
   pub office_lawful : Lawful t → (c : Call) → Lawful (called c t).0
   office_lawful w c =
@@ -115,4 +96,4 @@ module _ (t : Tree) where
       (λ h.
       subst (λ z. NumbersBelowNext (raised k z).0) (sym (applied_in_order t r))
       (raised_keeps NumbersBelowNext k (all_checks r.edit t) t (with_objects t (effect (stamp_of r) r.edit t.objects)) low
-      (effect_under (t.next + k) t.objects (λ x e. omega (arith, low x e)) (stamp_of r) r.edit (made_next c))))
+      (λ g. effect_under (t.next + k) t.objects (λ x e. omega (arith, low x e)) (stamp_of r) r.edit (made_next c))))

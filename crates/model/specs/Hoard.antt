@@ -10,7 +10,7 @@
 --     chosen f h l       the 16 files of l that go first, or all if there are fewer
 --     walked f h l       the hoard after a walk through the objects l
 --     weighted, plain    the two policies
-use Rattle.std.specs.Prelude.{ℕ, ◌+◌, ◌-◌, ◌*◌, ◌/◌, ◌^◌, min, Bool, cond, not, ◌&&◌, ◌||◌, List, [], ◌∷◌, ◌++◌, map, length, take, Result, ◌==◌, nat_eq, nat_le, nat_lt}
+use Rattle.std.specs.Prelude.{ℕ, ◌+◌, ◌-◌, ◌*◌, ◌/◌, ◌^◌, min, Bool, cond, not, ◌&&◌, ◌||◌, List, [], ◌∷◌, ◌++◌, map, length, take, Result, ◌==◌, nat_le, nat_lt}
 use Rattle.vocab.specs.declared.refusal.Refusal.{Refusal}
 use Rattle.vocab.specs.declared.refusal.Refusal.TheVariants.{RanksFull, RankTooHigh}
 use Rattle.vocab.specs.Checks.{check, judge}
@@ -34,7 +34,7 @@ abbrev pub most : ℕ
 most = 2 ^ 32 - 1
 
 abbrev pub kept_in : Hoard → ℕ → Bool
-kept_in h x = some_of (λ k. nat_eq k.number x) h.kept
+kept_in h x = some_of (λ k. k.number == x) h.kept
 
 -- ---- uses
 
@@ -60,7 +60,7 @@ abbrev pub rank_of : Hoard → ℕ → ℕ
 rank_of h x = rank_in h.ranks x
 
 abbrev pub has_rank : Hoard → ℕ → Bool
-has_rank h x = some_of (λ r. nat_eq r.number x) h.ranks
+has_rank h x = some_of (λ r. r.number == x) h.ranks
 
 abbrev pub with_rank : Hoard → ℕ → ℕ → List Ranked
 with_rank h x r =

@@ -9,11 +9,10 @@
 use Rattle.std.specs.Prelude.{ℕ, ◌+◌, cond, List, [], ◌∷◌, ◌++◌, Some, None, ◌==◌}
 use Rattle.vocab.specs.Limits.{temporary}
 use Rattle.tree.specs.Trees.{Object, Tree}
-use Rattle.model.specs.declared.answer.Answer.{Answer}
 use Rattle.model.specs.Records.{Edit, Record, makes}
 use Rattle.model.specs.Applying.{applied}
 use Rattle.model.specs.Office.{Call, edit_of}
-use Rattle.model.specs.Worlds.{World, loader_of, Turn, office, office_read, rank, read, walk, leave, edit, join, quit, step, accepted}
+use Rattle.model.specs.Worlds.{World, Answer, loader_of, Turn, office, office_read, rank, read, walk, leave, edit, join, quit, step, accepted}
 
 abbrev pub given : Edit → ℕ
 given e = cond (makes e) 1 0

@@ -3,20 +3,27 @@
 --     loader_of a ls    the loader of number a, or none
 --     with_loader d ls  the loaders with d in the place of the one of its number
 --     Turn              a call with its arguments: the office's; or a loader's, by its number, with the places lent in that turn
+--     Answer            what an accepted turn gives, or why it is not accepted
+--     accepted r        whether the answer r is of an accepted turn
+--     refused l e       the answer of a turn that the layer l refuses with e
+--     made_by c x       what the accepted call c gives, x being the number of its object
+--     call_answer f r   the answer to the result r of a loader's call, f saying what an accepted one gives
 --     step t w          the world after the turn t, and the answer; what the loader's state does not allow changes nothing
---     accepted r        whether the answer r is a result
 --     run ts w          the world after the turns ts
-use Rattle.std.specs.Prelude.{ℕ, Bool, true, false, cond, ◌&&◌, ◌||◌, List, [], ◌∷◌, map, length, Some, None, Ok, Err, Option, Result, ◌==◌, nat_le, nat_lt}
+use Rattle.std.specs.Prelude.{ℕ, Bool, false, cond, ◌&&◌, ◌||◌, List, [], ◌∷◌, map, length, Some, None, Ok, Err, Option, Result, is_ok, ◌==◌, nat_le, nat_lt}
+use Rattle.vocab.specs.declared.layer.Layer.{Layer}
 use Rattle.vocab.specs.declared.layer.Layer.TheVariants.{Server, Copy, Loader as LoaderLayer}
 use Rattle.vocab.specs.declared.refusal.Refusal.{Refusal}
 use Rattle.vocab.specs.declared.refusal.Refusal.TheVariants.{NoSuchObject, NotKept, BufferShort}
 use Rattle.vocab.specs.Checks.{check}
 use Rattle.tree.specs.Questions.{held, is_file}
 use Rattle.tree.specs.Trees.{Object, Tree, at}
-use Rattle.model.specs.declared.answer.Answer.{Answer}
-use Rattle.model.specs.declared.answer.Answer.TheVariants.{Done, Made, Length, Records, Refused, Conflicting, NotAllowed}
 use Rattle.model.specs.declared.answer.Conflict.{Conflict}
 use Rattle.model.specs.declared.answer.Fault.{Fault}
+use Rattle.model.specs.declared.answer.Reply.{Reply}
+use Rattle.model.specs.declared.answer.Reply.TheVariants.{Done, Made, Length, Records}
+use Rattle.model.specs.declared.answer.TurnError.{TurnError}
+use Rattle.model.specs.declared.answer.TurnError.TheVariants.{Refused, Conflicting, NotAllowed}
 use Rattle.model.specs.Records.{object}
 use Rattle.model.specs.Replaying.{Clash}
 use Rattle.model.specs.Office.{Call, make_directory, make_file, store_into, remove_file, remove_directory, rename_object, called}
@@ -81,67 +88,58 @@ pub data Turn : Type 0 where
 
 -- ---- answers
 
-abbrev pub refused_by : Refusal → Answer
-refused_by e = Refused (record { refusal = e; layer = Server })
+abbrev pub Answer : Type 0
+Answer = Result Reply TurnError
 
-abbrev pub made_by : Call → ℕ → Answer
-made_by (make_directory p n) x = Made (record { 0 = x })
-made_by (make_file p n) x = Made (record { 0 = x })
+abbrev pub accepted : Answer → Bool
+accepted r = is_ok r
+
+abbrev pub refused : Layer → Refusal → Answer
+refused l e = Err (Refused (record { refusal = e; layer = l }))
+
+abbrev pub made_by : Call → ℕ → Reply
+made_by (make_directory p n) x = Made x
+made_by (make_file p n) x = Made x
 made_by (store_into y c) x = Done
 made_by (remove_file p n) x = Done
 made_by (remove_directory p n) x = Done
 made_by (rename_object p n q m) x = Done
 
 abbrev pub office_answer : Call → ℕ → Result (Unit {0}) Refusal → Answer
-office_answer c x (Ok u) = made_by c x
-office_answer c x (Err e) = refused_by e
-
-abbrev pub rank_answer : Result (Unit {0}) Refusal → Answer
-rank_answer (Ok u) = Done
-rank_answer (Err e) = Refused (record { refusal = e; layer = LoaderLayer })
-
-abbrev pub done_answer : Result (Unit {0}) Fault → Answer
-done_answer (Ok u) = Done
-done_answer (Err f) = Refused f
-
-abbrev pub edit_answer : Call → Result ℕ Fault → Answer
-edit_answer c (Ok x) = made_by c x
-edit_answer c (Err f) = Refused f
-
-abbrev pub read_answer : Result ℕ Fault → Answer
-read_answer (Ok n) = Length n
-read_answer (Err f) = Refused f
-
-abbrev pub conflict_of : Clash → Conflict
-conflict_of c = record { refusal = c.failed; serial = c.logged.serial; object = record { 0 = object c.logged.edit } }
-
-abbrev pub join_answer : Result (Result ℕ Clash) Fault → Answer
-join_answer (Ok (Ok n)) = Records n
-join_answer (Ok (Err c)) = Conflicting (conflict_of c)
-join_answer (Err f) = Refused f
+office_answer c x (Ok u) = Ok (made_by c x)
+office_answer c x (Err e) = refused Server e
 
 abbrev pub office_reads : ℕ → ℕ → Tree → Answer
-office_reads x k t = cond (is_file (at x t.objects)) (cond (nat_le (length (held (at x t.objects))) k) (Length (length (held (at x t.objects)))) (refused_by BufferShort)) (refused_by NoSuchObject)
+office_reads x k t =
+    let n = length (held (at x t.objects)) in
+    cond (is_file (at x t.objects)) (cond (nat_le n k) (Ok (Length n)) (refused Server BufferShort)) (refused Server NoSuchObject)
 
-abbrev pub accepted : Answer → Bool
-accepted Done = true
-accepted (Made n) = true
-accepted (Length n) = true
-accepted (Records n) = true
-accepted (Refused f) = false
-accepted (Conflicting c) = false
-accepted NotAllowed = false
+abbrev pub rank_answer : Result (Unit {0}) Refusal → Answer
+rank_answer (Ok u) = Ok Done
+rank_answer (Err e) = refused LoaderLayer e
+
+abbrev pub call_answer : {A : Type 0} → (A → Reply) → Result A Fault → Answer
+call_answer f (Ok x) = Ok (f x)
+call_answer f (Err e) = Err (Refused e)
+
+abbrev pub conflict_of : Clash → Conflict
+conflict_of c = record { refusal = c.failed; serial = c.logged.serial; object = object c.logged.edit }
+
+abbrev pub join_answer : Result (Result ℕ Clash) Fault → Answer
+join_answer (Ok (Ok n)) = Ok (Records n)
+join_answer (Ok (Err c)) = Err (Conflicting (conflict_of c))
+join_answer (Err f) = Err (Refused f)
 
 -- ---- what a loader does, by its state
 
 abbrev pub at_home : World → Loader → (Bool → World × Answer) → World × Answer
-at_home w d f = elim d.state [ home b ↦ f b | away s ↦ (w, NotAllowed) ]
+at_home w d f = elim d.state [ home b ↦ f b | away s ↦ (w, Err NotAllowed) ]
 
 abbrev pub when_away : World → Loader → (Spell → World × Answer) → World × Answer
-when_away w d f = elim d.state [ home b ↦ (w, NotAllowed) | away s ↦ f s ]
+when_away w d f = elim d.state [ home b ↦ (w, Err NotAllowed) | away s ↦ f s ]
 
 abbrev pub by_loader : ℕ → World → (Loader → World × Answer) → World × Answer
-by_loader a w f = elim (loader_of a w.loaders) [ None ↦ (w, NotAllowed) | Some d ↦ f d ]
+by_loader a w f = elim (loader_of a w.loaders) [ None ↦ (w, Err NotAllowed) | Some d ↦ f d ]
 
 abbrev pub step : Turn → World → World × Answer
 step (office c) w = (put_server (called c w.server).0 w, office_answer c w.server.next (called c w.server).1)
@@ -150,14 +148,14 @@ step (rank a x r) w = by_loader a w (λ d. at_home w d (λ b. (put_loader (with_
 step (read a x k) w =
     by_loader a w (λ d.
     elim d.state [
-      | home b ↦ (put_loader (reads_home x k w.server d).0 w, read_answer (reads_home x k w.server d).1)
-      | away s ↦ (put_loader (reads_away s x k d).0 w, read_answer (reads_away s x k d).1)
+      | home b ↦ (put_loader (reads_home x k w.server d).0 w, call_answer Length (reads_home x k w.server d).1)
+      | away s ↦ (put_loader (reads_away s x k d).0 w, call_answer Length (reads_away s x k d).1)
     ])
-step (walk a k) w = by_loader a w (λ d. at_home w d (λ b. (put_loader (walks w.policy k w.server d).0 w, done_answer (walks w.policy k w.server d).1)))
-step (leave a) w = by_loader a w (λ d. at_home w d (λ b. (put_loader (leaves b d).0 w, done_answer (leaves b d).1)))
-step (edit a c k) w = by_loader a w (λ d. when_away w d (λ s. (put_loader (edited s c k d).0 w, edit_answer c (edited s c k d).1)))
+step (walk a k) w = by_loader a w (λ d. at_home w d (λ b. (put_loader (walks w.policy k w.server d).0 w, call_answer (λ _. Done) (walks w.policy k w.server d).1)))
+step (leave a) w = by_loader a w (λ d. at_home w d (λ b. (put_loader (leaves b d).0 w, call_answer (λ _. Done) (leaves b d).1)))
+step (edit a c k) w = by_loader a w (λ d. when_away w d (λ s. (put_loader (edited s c k d).0 w, call_answer (made_by c) (edited s c k d).1)))
 step (join a k u) w = by_loader a w (λ d. when_away w d (λ s. (put_loader (joins s k u w.server d).0.1 (put_server (joins s k u w.server d).0.0 w), join_answer (joins s k u w.server d).1)))
-step (quit a) w = by_loader a w (λ d. when_away w d (λ s. (put_loader (comes_home d) w, Records s.count)))
+step (quit a) w = by_loader a w (λ d. when_away w d (λ s. (put_loader (comes_home d) w, Ok (Records s.count))))
 
 abbrev pub run : List Turn → World → World
 run [] w = w

@@ -3,31 +3,23 @@ ghost use Rattle.model.specs.Cases.{WorkedCases};
 ghost use Rattle.model.specs.Choice.{KeepsTheFirstSixteen, FirstSixteenAreOneList, WalkKeepsTheChosen, KeptIsChosen};
 ghost use Rattle.model.specs.Theorems.{AppliedInOrder, OfficeInOrder, OfficeKeepsLaw, OfficeKeepsNumbers};
 
-pub fn records_are_applied_in_order() -> u8
+pub fn records_are_applied_in_order()
     ensures { AppliedInOrder }
-{
-    0
-}
+{}
 
-pub fn cases_compute() -> u8
+pub fn cases_compute()
     ensures { WorkedCases }
-{
-    0
-}
+{}
 
-pub fn the_office_keeps_the_server_lawful() -> u8
+pub fn the_office_keeps_the_server_lawful()
     ensures order { OfficeInOrder }
     ensures law { OfficeKeepsLaw }
     ensures numbers { OfficeKeepsNumbers }
-{
-    0
-}
+{}
 
-pub fn walks_keep_the_first_sixteen() -> u8
+pub fn walks_keep_the_first_sixteen()
     ensures choice { KeepsTheFirstSixteen }
     ensures alone { FirstSixteenAreOneList }
     ensures walk { WalkKeepsTheChosen }
     ensures kept { KeptIsChosen }
-{
-    0
-}
+{}

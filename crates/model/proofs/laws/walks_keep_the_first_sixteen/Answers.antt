@@ -1,5 +1,8 @@
-use Rattle.model.proofs.Choosing.{are_one_list, first_sixteen, kept_chosen, walk_keeps}
+use Rattle.model.proofs.Choosing.{are_one_list, first_sixteen}
 use Rattle.model.proofs.laws.walks_keep_the_first_sixteen.Goals as goal
 
-pub returns : goal.returns
-returns c = record { choice = first_sixteen; alone = are_one_list; walk = walk_keeps; kept = kept_chosen }
+pub returns-clause-choice : goal.returns-clause-choice
+returns-clause-choice c = first_sixteen
+
+pub returns-clause-alone : goal.returns-clause-alone
+returns-clause-alone c = are_one_list
