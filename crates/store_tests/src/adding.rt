@@ -1,10 +1,11 @@
 // Adding objects.
-#[cfg(test)]
 use crate::change::Change;
 use crate::expect::{has_children, makes, refuses};
 use std::process::Abort;
 use std::test::Fail;
 use tree::store::Store;
+use tree::view::TreeView;
+use vocab::kind::Kind::{Directory, File};
 use vocab::number::Number;
 use vocab::refusal::Refusal;
 
@@ -38,13 +39,13 @@ pub fn takes_printable_bytes_but_the_slash<S: Store>(
 
 // A new object and a moved one take the same names.
 fn takes_name<S: Store>(rt: &impl Abort, s: &mut S, name: &[u8]) -> Result<(), Fail> {
-    makes(s, &[Change::MakeFile(1, name, 20)])?;
+    makes(s, &[Change::Add(File, 1, name, 20)])?;
     assert_eq!(rt; s.look(Number::ROOT, name), Some(Number(20)));
     makes(
         s,
         &[
             Change::Remove(20),
-            Change::MakeFile(1, b"old", 21),
+            Change::Add(File, 1, b"old", 21),
             Change::Move(21, 1, name),
         ],
     )?;
@@ -53,13 +54,13 @@ fn takes_name<S: Store>(rt: &impl Abort, s: &mut S, name: &[u8]) -> Result<(), F
 }
 
 fn refuses_name<S: Store>(rt: &impl Abort, s: &mut S, name: &[u8]) -> Result<(), Fail> {
-    makes(s, &[Change::MakeFile(1, b"old", 21)])?;
+    makes(s, &[Change::Add(File, 1, b"old", 21)])?;
     refuses(
         rt,
         s,
         Refusal::BadName,
-        &[Change::MakeFile(1, name, 20), Change::Move(21, 1, name)],
-    )?;
+        &[Change::Add(File, 1, name, 20), Change::Move(21, 1, name)],
+    );
     makes(s, &[Change::Remove(21)])
 }
 
@@ -70,16 +71,16 @@ pub fn takes_free_numbers_from_2_up<S: Store>(rt: &impl Abort, s: &mut S) -> Res
         s,
         Refusal::NumberInUse,
         &[
-            Change::MakeFile(1, b"zero", 0),
-            Change::MakeDirectory(1, b"one", 1),
+            Change::Add(File, 1, b"zero", 0),
+            Change::Add(Directory, 1, b"one", 1),
         ],
-    )?;
+    );
     makes(
         s,
         &[
-            Change::MakeFile(1, b"last", u32::MAX),
-            Change::MakeDirectory(1, b"first", 2),
-            Change::MakeFile(2, b"temporary", 0x8000_0000),
+            Change::Add(File, 1, b"last", u32::MAX),
+            Change::Add(Directory, 1, b"first", 2),
+            Change::Add(File, 2, b"temporary", 0x8000_0000),
         ],
     )?;
     refuses(
@@ -87,11 +88,11 @@ pub fn takes_free_numbers_from_2_up<S: Store>(rt: &impl Abort, s: &mut S) -> Res
         s,
         Refusal::NumberInUse,
         &[
-            Change::MakeFile(1, b"again", 2),
-            Change::MakeFile(2, b"again", u32::MAX),
-            Change::MakeDirectory(1, b"again", 0x8000_0000),
+            Change::Add(File, 1, b"again", 2),
+            Change::Add(File, 2, b"again", u32::MAX),
+            Change::Add(Directory, 1, b"again", 0x8000_0000),
         ],
-    )?;
+    );
     has_children(rt, s, 1, &[2, u32::MAX]);
     assert_eq!(rt; s.next_number(), first);
     Ok(())
@@ -104,24 +105,24 @@ pub fn takes_free_places_in_directories<S: Store>(rt: &impl Abort, s: &mut S) ->
             rt,
             s,
             Refusal::NoSuchDirectory,
-            &[Change::MakeFile(parent, b"clean.pre", 20)],
-        )?;
+            &[Change::Add(File, parent, b"clean.pre", 20)],
+        );
     }
     refuses(
         rt,
         s,
         Refusal::NameTaken,
         &[
-            Change::MakeFile(2, b"lead.pre", 20),
-            Change::MakeDirectory(2, b"lead.pre", 20),
-            Change::MakeFile(1, b"factory", 20),
+            Change::Add(File, 2, b"lead.pre", 20),
+            Change::Add(Directory, 2, b"lead.pre", 20),
+            Change::Add(File, 1, b"factory", 20),
         ],
-    )?;
+    );
     makes(
         s,
         &[
-            Change::MakeFile(1, b"lead.pre", 20),
-            Change::MakeDirectory(6, b"lead.pre", 21),
+            Change::Add(File, 1, b"lead.pre", 20),
+            Change::Add(Directory, 6, b"lead.pre", 21),
         ],
     )?;
     has_children(rt, s, 1, &[2, 8, 20]);
@@ -131,22 +132,25 @@ pub fn takes_free_places_in_directories<S: Store>(rt: &impl Abort, s: &mut S) ->
 }
 
 // In a planted store.
-pub fn gives_the_first_refusal<S: Store>(rt: &impl Abort, s: &mut S) -> Result<(), Fail> {
+pub fn gives_the_first_refusal<S: Store>(rt: &impl Abort, s: &mut S) {
     refuses(
         rt,
         s,
         Refusal::BadName,
-        &[Change::MakeFile(3, b"", 3), Change::MakeFile(2, b"a/b", 1)],
-    )?;
+        &[
+            Change::Add(File, 3, b"", 3),
+            Change::Add(File, 2, b"a/b", 1),
+        ],
+    );
     refuses(
         rt,
         s,
         Refusal::NumberInUse,
         &[
-            Change::MakeFile(3, b"a", 3),
-            Change::MakeFile(2, b"lead.pre", 1),
+            Change::Add(File, 3, b"a", 3),
+            Change::Add(File, 2, b"lead.pre", 1),
         ],
-    )
+    );
 }
 
 // In an empty store with room for three objects.
@@ -154,54 +158,58 @@ pub fn fills_up<S: Store>(rt: &impl Abort, s: &mut S) -> Result<(), Fail> {
     makes(
         s,
         &[
-            Change::MakeFile(1, b"a", 4),
-            Change::MakeFile(1, b"b", 3),
-            Change::MakeFile(1, b"c", 2),
+            Change::Add(File, 1, b"a", 4),
+            Change::Add(File, 1, b"b", 3),
+            Change::Add(File, 1, b"c", 2),
         ],
     )?;
-    refuses(rt, s, Refusal::BadName, &[Change::MakeFile(1, b"", 5)])?;
-    refuses(rt, s, Refusal::NumberInUse, &[Change::MakeFile(1, b"d", 4)])?;
+    refuses(rt, s, Refusal::BadName, &[Change::Add(File, 1, b"", 5)]);
+    refuses(
+        rt,
+        s,
+        Refusal::NumberInUse,
+        &[Change::Add(File, 1, b"d", 4)],
+    );
     refuses(
         rt,
         s,
         Refusal::NoSuchDirectory,
-        &[Change::MakeFile(4, b"d", 5)],
-    )?;
-    refuses(rt, s, Refusal::NameTaken, &[Change::MakeFile(1, b"a", 5)])?;
+        &[Change::Add(File, 4, b"d", 5)],
+    );
+    refuses(rt, s, Refusal::NameTaken, &[Change::Add(File, 1, b"a", 5)]);
     refuses(
         rt,
         s,
         Refusal::StoreFull,
         &[
-            Change::MakeFile(1, b"d", 5),
-            Change::MakeDirectory(1, b"d", 5),
+            Change::Add(File, 1, b"d", 5),
+            Change::Add(Directory, 1, b"d", 5),
         ],
-    )?;
+    );
     for (number, name) in [(4, b"a"), (3, b"b"), (2, b"c")] {
-        makes(s, &[Change::Remove(number), Change::MakeFile(1, b"d", 5)])?;
+        makes(s, &[Change::Remove(number), Change::Add(File, 1, b"d", 5)])?;
         refuses(
             rt,
             s,
             Refusal::StoreFull,
-            &[Change::MakeFile(1, name, number)],
-        )?;
-        makes(s, &[Change::Remove(5), Change::MakeFile(1, name, number)])?;
+            &[Change::Add(File, 1, name, number)],
+        );
+        makes(s, &[Change::Remove(5), Change::Add(File, 1, name, number)])?;
     }
     assert_eq!(rt; s.count(), 3);
     Ok(())
 }
 
 // In a store with no room.
-pub fn has_no_room<S: Store>(rt: &impl Abort, s: &mut S) -> Result<(), Fail> {
+pub fn has_no_room<S: Store>(rt: &impl Abort, s: &mut S) {
     refuses(
         rt,
         s,
         Refusal::StoreFull,
         &[
-            Change::MakeFile(1, b"a", 2),
-            Change::MakeDirectory(1, b"a", 2),
+            Change::Add(File, 1, b"a", 2),
+            Change::Add(Directory, 1, b"a", 2),
         ],
-    )?;
+    );
     assert_eq!(rt; s.count(), 0);
-    Ok(())
 }

@@ -1,5 +1,4 @@
 // Changes of a store as values, for tables of cases.
-#[cfg(test)]
 use tree::store::Store;
 use vocab::kind::Kind;
 use vocab::number::Number;
@@ -11,11 +10,10 @@ pub const STAMP: Stamp = Stamp {
     serial: 70_000,
 };
 
-// Numbers and names come in the order of the store's own calls.
+// Kinds, numbers and names come in the order of the store's own calls.
 #[derive(Clone, Copy, Debug)]
 pub enum Change<'a> {
-    MakeDirectory(u32, &'a [u8], u32),
-    MakeFile(u32, &'a [u8], u32),
+    Add(Kind, u32, &'a [u8], u32),
     Put(u32, &'a [u8]),
     Remove(u32),
     Move(u32, u32, &'a [u8]),
@@ -25,15 +23,8 @@ pub enum Change<'a> {
 impl Change<'_> {
     pub fn make<S: Store>(&self, s: &mut S) -> Result<(), Refusal> {
         match *self {
-            Change::MakeDirectory(parent, name, number) => s.add(
-                Kind::Directory,
-                Number(parent),
-                name,
-                Number(number),
-                STAMP,
-            ),
-            Change::MakeFile(parent, name, number) => s.add(
-                Kind::File,
+            Change::Add(kind, parent, name, number) => s.add(
+                kind,
                 Number(parent),
                 name,
                 Number(number),

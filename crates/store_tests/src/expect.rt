@@ -1,9 +1,11 @@
 // What a test expects of a store: that it makes changes, or refuses them and stays as it was.
-#[cfg(test)]
 use crate::change::Change;
+use std::hash::{FoldHasher, Hash, Hasher};
+use std::iter::once;
 use std::process::Abort;
 use std::test::Fail;
 use tree::store::Store;
+use tree::view::TreeView;
 use vocab::number::Number;
 use vocab::refusal::Refusal;
 use vocab::status::Status;
@@ -17,97 +19,55 @@ pub fn makes<S: Store>(s: &mut S, changes: &[Change]) -> Result<(), Fail> {
     Ok(())
 }
 
-pub fn refuses<S: Store>(
-    rt: &impl Abort,
-    s: &mut S,
-    refusal: Refusal,
-    changes: &[Change],
-) -> Result<(), Fail> {
+pub fn refuses<S: Store>(rt: &impl Abort, s: &mut S, refusal: Refusal, changes: &[Change]) {
     let before = fingerprint(s);
     for change in changes {
-        match change.make(s) {
-            Ok(()) => return Err(Fail::new(format_args!("{change:?} gave no {refusal:?}"))),
-            Err(given) => assert_eq!(rt; given, refusal, "{change:?}"),
-        }
+        assert_eq!(rt; change.make(s), Err(refusal), "{change:?}");
         assert_eq!(rt; fingerprint(s), before, "{change:?}");
-    }
-    Ok(())
-}
-
-pub fn refused<T: Drop>(
-    rt: &impl Abort,
-    res: Result<T, Refusal>,
-    refusal: Refusal,
-) -> Result<(), Fail> {
-    match res {
-        Ok(_) => Err(Fail::new(format_args!("no {refusal:?}"))),
-        Err(given) => {
-            assert_eq!(rt; given, refusal);
-            Ok(())
-        },
     }
 }
 
 // Children of a directory, from the lowest number on.
-pub fn has_children<S: Store>(rt: &impl Abort, s: &S, directory: u32, expected: &[u32]) {
-    let mut above = Number(0);
-    for number in expected {
-        assert_eq!(rt; s.child(Number(directory), above), Some(Number(*number)));
-        above = Number(*number);
+pub fn has_children<V: TreeView>(rt: &impl Abort, view: &V, directory: u32, expected: &[u32]) {
+    let mut above = Number::BEFORE_ALL;
+    for &number in expected {
+        let number = Number(number);
+        assert_eq!(rt; view.child(Number(directory), above), Some(number));
+        above = number;
     }
-    assert_eq!(rt; s.child(Number(directory), above), None);
+    assert_eq!(rt; view.child(Number(directory), above), None);
 }
 
-pub fn holds<S: Store>(rt: &impl Abort, s: &S, number: u32, expected: &[u8]) -> Result<(), Fail> {
+pub fn holds<V: TreeView>(
+    rt: &impl Abort,
+    view: &V,
+    number: u32,
+    expected: &[u8],
+) -> Result<(), Fail> {
     let mut buffer = [0; 256];
-    let len = s.contents(Number(number), &mut buffer)?;
+    let len = view.contents(Number(number), &mut buffer)?;
     assert_eq!(rt; len, expected.len());
     assert!(rt; buffer.starts_with(expected));
     Ok(())
 }
 
-pub fn status<S: Store>(s: &S, number: u32) -> Result<Status, Fail> {
-    match s.object(Number(number)) {
+pub fn status<V: TreeView>(view: &V, number: u32) -> Result<Status, Fail> {
+    match view.object(Number(number)) {
         Some(status) => Ok(status),
         None => Err(Fail::new(format_args!("no object {number}"))),
     }
 }
 
-// All that a store shows of the numbers below 128 and the highest one, folded into one number.
-fn fingerprint<S: Store>(s: &S) -> u64 {
-    let mut sum = folded(u64::from(s.next_number().0), &s.count().to_le_bytes());
-    for number in 0..128 {
-        sum = fold_object(s, Number(number), sum);
+// All that is shown of the numbers below 128 and the highest one, as one number.
+fn fingerprint<V: TreeView>(view: &V) -> u64 {
+    let mut hasher = FoldHasher::default();
+    view.next_number().hash(&mut hasher);
+    view.count().hash(&mut hasher);
+    for number in (0..128).chain(once(u32::MAX)) {
+        let number = Number(number);
+        let mut buffer = [0; 256];
+        let len = view.contents(number, &mut buffer).ok();
+        (view.object(number), len, buffer).hash(&mut hasher);
     }
-    fold_object(s, Number(u32::MAX), sum)
-}
-
-fn fold_object<S: Store>(s: &S, number: Number, sum: u64) -> u64 {
-    let mut buffer = [0; 256];
-    let Some(status) = s.object(number) else {
-        return sum;
-    };
-    let known = [
-        number.0,
-        status.kind as u32,
-        status.parent.0,
-        u32::from(status.stamp.author),
-        status.stamp.serial,
-    ];
-    let mut sum = folded(sum, status.name.as_bytes());
-    for word in known {
-        sum = folded(sum, &word.to_le_bytes());
-    }
-    match s.contents(number, &mut buffer) {
-        Ok(len) => folded(folded(sum, &len.to_le_bytes()), &buffer),
-        Err(_) => sum,
-    }
-}
-
-fn folded(sum: u64, bytes: &[u8]) -> u64 {
-    let mut sum = sum;
-    for byte in bytes {
-        sum = (sum ^ u64::from(*byte)).wrapping_mul(0x100_0000_01b3);
-    }
-    sum
+    hasher.finish()
 }

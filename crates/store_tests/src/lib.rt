@@ -4,8 +4,6 @@
 #[cfg(test)]
 mod adding;
 #[cfg(test)]
-mod asking;
-#[cfg(test)]
 mod change;
 #[cfg(test)]
 mod dropping;
@@ -23,6 +21,8 @@ mod numbering;
 mod opening;
 #[cfg(test)]
 mod putting;
+#[cfg(test)]
+mod showing;
 #[cfg(test)]
 mod stacks;
 #[cfg(test)]

@@ -1,33 +1,33 @@
 // How many objects a table takes, and what becomes of its rows.
-#[cfg(test)]
-use crate::expect::refused;
 use crate::library::plant;
 use rows::row::Row;
-use std::alloc::Global;
+use std::alloc::{AllocError, Global};
 use std::process::Abort;
 use std::test::Fail;
 use table::Table;
 use tree::store::Store;
+use tree::view::TreeView;
 use vocab::kind::Kind;
 use vocab::number::Number;
 use vocab::refusal::Refusal;
 use vocab::stamp::Stamp;
 
-fn used(rows: &[Row]) -> usize {
-    let mut count = 0usize;
-    for row in rows {
-        if matches!(row, Row::Used(_)) {
-            count = count.saturating_add(1);
-        }
-    }
-    count
+// A table in new rows.
+pub fn open(heap: Global, count: usize) -> Result<Table, AllocError> {
+    let mut rows = Vec::new(heap);
+    rows.resize(count, None)?;
+    Ok(Table::open(rows))
 }
 
-fn is_new<S: Store>(rt: &impl Abort, s: &S, room: usize) {
-    assert_eq!(rt; s.capacity(), room);
-    assert_eq!(rt; s.count(), 0);
-    assert_eq!(rt; s.next_number(), Number(2));
-    assert_eq!(rt; s.child(Number::ROOT, Number(0)), None);
+fn used(rows: &[Row]) -> usize {
+    rows.iter().filter(|row| row.is_some()).count()
+}
+
+fn is_new<V: TreeView>(rt: &impl Abort, view: &V, room: usize) {
+    assert_eq!(rt; view.capacity(), room);
+    assert_eq!(rt; view.count(), 0);
+    assert_eq!(rt; view.next_number(), Number(2));
+    assert_eq!(rt; view.child(Number::ROOT, Number::BEFORE_ALL), None);
 }
 
 #[test]
@@ -40,7 +40,7 @@ fn capacity_is_the_count_of_rows_up_to_4096(rt: HostRuntime) -> Result<(), Fail>
         (4_097, 4_096),
         (5_000, 4_096),
     ] {
-        let table = Table::open(vec![in rt.alloc(); Row::Free; rows]?);
+        let table = open(rt.alloc(), rows)?;
         is_new(&rt, &table, room);
         assert_eq!(rt; table.close().len(), rows);
     }
@@ -49,7 +49,7 @@ fn capacity_is_the_count_of_rows_up_to_4096(rt: HostRuntime) -> Result<(), Fail>
 
 #[test]
 fn rows_are_opened_empty_and_given_back(rt: HostRuntime) -> Result<(), Fail> {
-    let mut table = Table::open(vec![in rt.alloc(); Row::Free; 12]?);
+    let mut table = open(rt.alloc(), 12)?;
     plant(&mut table)?;
     table.set_next(Number(10))?;
     let rows = table.close();
@@ -67,7 +67,7 @@ fn add_numbered<S: Store>(
     s: &mut S,
     heap: Global,
     number: u32,
-) -> Result<Result<(), Refusal>, Fail> {
+) -> Result<Result<(), Refusal>, AllocError> {
     let name = format!(in heap; "{number}")?;
     Ok(s.add(
         Kind::File,
@@ -83,15 +83,14 @@ fn add_numbered<S: Store>(
 
 #[test]
 fn takes_4096_objects_in_5000_rows(rt: HostRuntime) -> Result<(), Fail> {
-    let mut table = Table::open(vec![in rt.alloc(); Row::Free; 5_000]?);
+    let mut table = open(rt.alloc(), 5_000)?;
     for number in 2..4_098 {
         add_numbered(&mut table, rt.alloc(), number)??;
     }
-    refused(
-        &rt,
+    assert_eq!(rt;
         add_numbered(&mut table, rt.alloc(), 4_098)?,
-        Refusal::StoreFull,
-    )?;
+        Err(Refusal::StoreFull)
+    );
     assert_eq!(rt; table.count(), 4_096);
     assert_eq!(rt; used(&table.close()), 4_096);
     Ok(())

@@ -1,6 +1,4 @@
 // The stack, over elements of two types.
-#[cfg(test)]
-use crate::expect::refused;
 use stack::Stack;
 use std::test::Fail;
 use vocab::number::Number;
@@ -29,10 +27,10 @@ fn a_full_stack_stays_as_it_is(rt: HostRuntime) -> Result<(), Fail> {
     let mut stack = Stack::new(&mut room);
     stack.push(Number(7))?;
     stack.push(Number(8))?;
-    refused(&rt, stack.push(Number(9)), Refusal::ListShort)?;
+    assert_eq!(rt; stack.push(Number(9)), Err(Refusal::ListShort));
     assert_eq!(rt; stack.pop(), Some(Number(8)));
     stack.push(Number(5))?;
-    refused(&rt, stack.push(Number(9)), Refusal::ListShort)?;
+    assert_eq!(rt; stack.push(Number(9)), Err(Refusal::ListShort));
     assert_eq!(rt; stack.places(), 2);
     assert_eq!(rt; stack.pop(), Some(Number(5)));
     assert_eq!(rt; stack.pop(), Some(Number(7)));
@@ -43,7 +41,7 @@ fn a_full_stack_stays_as_it_is(rt: HostRuntime) -> Result<(), Fail> {
 #[test]
 fn a_stack_without_places_takes_nothing(rt: HostRuntime) -> Result<(), Fail> {
     let mut stack = Stack::new(&mut []);
-    refused(&rt, stack.push(1u8), Refusal::ListShort)?;
+    assert_eq!(rt; stack.push(1u8), Err(Refusal::ListShort));
     assert_eq!(rt; stack.pop(), None);
     stack.clear();
     assert_eq!(rt; stack.places(), 0);

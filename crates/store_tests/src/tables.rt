@@ -1,16 +1,10 @@
 // The tests of stores, on tables.
-#[cfg(test)]
-use crate::adding;
 use crate::library::plant;
-use crate::{asking, dropping, listings, moving, numbering, putting};
-use rows::row::Row;
-use std::alloc::{AllocError, Global};
+use crate::opening::open;
+use crate::{adding, dropping, listings, moving, numbering, putting, showing};
+use std::alloc::Global;
 use std::test::Fail;
 use table::Table;
-
-fn open(heap: Global, rows: usize) -> Result<Table, AllocError> {
-    Ok(Table::open(vec![in heap; Row::Free; rows]?))
-}
 
 fn planted(heap: Global) -> Result<Table, Fail> {
     let mut table = open(heap, 16)?;
@@ -29,20 +23,20 @@ fn names(rt: HostRuntime) -> Result<(), Fail> {
 fn adds(rt: HostRuntime) -> Result<(), Fail> {
     adding::takes_free_numbers_from_2_up(&rt, &mut open(rt.alloc(), 4)?)?;
     let mut table = planted(rt.alloc())?;
-    adding::gives_the_first_refusal(&rt, &mut table)?;
+    adding::gives_the_first_refusal(&rt, &mut table);
     adding::takes_free_places_in_directories(&rt, &mut table)
 }
 
 #[test]
 fn adds_while_there_is_room(rt: HostRuntime) -> Result<(), Fail> {
-    adding::has_no_room(&rt, &mut open(rt.alloc(), 0)?)?;
+    adding::has_no_room(&rt, &mut open(rt.alloc(), 0)?);
     adding::fills_up(&rt, &mut open(rt.alloc(), 3)?)
 }
 
 #[test]
 fn puts(rt: HostRuntime) -> Result<(), Fail> {
     let mut table = planted(rt.alloc())?;
-    putting::puts_into_files_alone(&rt, &mut table)?;
+    putting::puts_into_files_alone(&rt, &mut table);
     putting::puts_a_new_stamp(&rt, &mut table)?;
     putting::puts_up_to_256_bytes(&rt, &mut table)
 }
@@ -56,10 +50,10 @@ fn drops(rt: HostRuntime) -> Result<(), Fail> {
 #[test]
 fn moves(rt: HostRuntime) -> Result<(), Fail> {
     let mut table = planted(rt.alloc())?;
-    moving::moves_objects_into_directories(&rt, &mut table)?;
-    moving::moves_to_free_places(&rt, &mut table)?;
-    moving::moves_nothing_beneath_itself(&rt, &mut table)?;
-    moving::gives_the_first_refusal(&rt, &mut table)?;
+    moving::moves_objects_into_directories(&rt, &mut table);
+    moving::moves_to_free_places(&rt, &mut table);
+    moving::moves_nothing_beneath_itself(&rt, &mut table);
+    moving::gives_the_first_refusal(&rt, &mut table);
     moving::moves_a_file(&rt, &mut table)?;
     moving::moves_a_directory_with_all_beneath_it(&rt, &mut planted(rt.alloc())?)
 }
@@ -72,25 +66,26 @@ fn sets_next_and_clears(rt: HostRuntime) -> Result<(), Fail> {
 
 #[test]
 fn looks(rt: HostRuntime) -> Result<(), Fail> {
-    asking::finds_names(&rt, &planted(rt.alloc())?);
+    showing::finds_names(&rt, &planted(rt.alloc())?);
     Ok(())
 }
 
 #[test]
 fn objects(rt: HostRuntime) -> Result<(), Fail> {
-    asking::shows_objects(&rt, &planted(rt.alloc())?)
+    showing::shows_objects(&rt, &planted(rt.alloc())?)
 }
 
 #[test]
 fn children(rt: HostRuntime) -> Result<(), Fail> {
-    asking::gives_children_by_number(&rt, &mut planted(rt.alloc())?)
+    showing::gives_children_by_number(&rt, &mut planted(rt.alloc())?)
 }
 
 #[test]
 fn contents(rt: HostRuntime) -> Result<(), Fail> {
     let table = planted(rt.alloc())?;
-    asking::copies_contents_of_files(&rt, &table)?;
-    asking::refuses_to_copy(&rt, &table)
+    showing::copies_contents_of_files(&rt, &table)?;
+    showing::refuses_to_copy(&rt, &table);
+    Ok(())
 }
 
 #[test]

@@ -7,12 +7,10 @@ mod step;
 
 use listing::Listing;
 use print::{Answer, Shown};
-use rows::row::Row;
-use stack::Stack;
-use std::io;
 use step::Step;
 use table::Table;
 use tree::store::Store;
+use tree::view::TreeView;
 use vocab::bytes::Contents;
 use vocab::kind::Kind;
 use vocab::name::Name;
@@ -26,11 +24,8 @@ const ROWS: usize = 8;
 // The office, whoever works at the server itself.
 const OFFICE: u16 = 0;
 
-// No object has it, so no call takes it for a directory.
-const NOWHERE: Number = Number(0);
-
-fn main(rt: HostRuntime) -> io::Result<()> {
-    let mut server = Table::open(vec![in rt.alloc(); Row::Free; ROWS]?);
+fn main(rt: HostRuntime) -> anyhow::Result<()> {
+    let mut server = Table::open(Vec::from_array(rt.alloc(), [None; ROWS])?);
     println!(rt; "Monday")?;
     for step in &monday::STEPS {
         let answer = take(&mut server, step);
@@ -40,20 +35,12 @@ fn main(rt: HostRuntime) -> io::Result<()> {
 }
 
 // Each object, followed by all beneath it.
-fn show<S: Store>(rt: &HostRuntime, store: &S) -> io::Result<()> {
-    let count = store.count();
-    let next = store.next_number().0;
-    println!(rt; "{count} objects, next number {next}")?;
+fn show<V: TreeView>(rt: &HostRuntime, view: &V) -> anyhow::Result<()> {
+    let count = view.count();
+    println!(rt; "{count} objects, next number {}", view.next_number())?;
     let mut list = vec![in rt.alloc(); Number(0); count]?;
-    let mut path = Stack::new(&mut list);
-    let mut listing = match Listing::new(store, &mut path) {
-        Ok(listing) => listing,
-        Err(refusal) => return println!(rt; "{}", Answer(Err(refusal))),
-    };
-    for _ in 0..count {
-        if let Some(number) = listing.next() {
-            println!(rt; "{}", Shown { store, number })?;
-        }
+    for number in Listing::new(view, &mut list)? {
+        println!(rt; "{}", Shown { view, number })?;
     }
     Ok(())
 }
@@ -70,19 +57,19 @@ fn take<S: Store>(server: &mut S, step: &Step) -> Result<Number, Refusal> {
     }
 }
 
+// Each takes the server and a path: the one lasts, the other is the step's.
 fn make<S: Store>(server: &mut S, kind: Kind, path: &str) -> Result<Number, Refusal> {
-    let place = place(server, path);
-    Name::new(place.name)?;
+    let spot = Spot::at(server, path);
+    Name::new(spot.name)?;
     let (number, after) = numbers(server)?;
-    server.add(kind, place.directory, place.name, number, stamp(number))?;
+    let directory = spot.directory.ok_or(Refusal::NoSuchDirectory)?;
+    server.add(kind, directory, spot.name, number, stamp(number))?;
     server.set_next(after)?;
     Ok(number)
 }
 
 fn fill<S: Store>(server: &mut S, path: &str, contents: &[u8]) -> Result<Number, Refusal> {
-    if Contents::new(contents).is_none() {
-        return Err(Refusal::ContentsTooLong);
-    }
+    Contents::new(contents).ok_or(Refusal::ContentsTooLong)?;
     let (serial, after) = numbers(server)?;
     let number = bound(server, path)?;
     server.put(number, contents, stamp(serial))?;
@@ -92,28 +79,26 @@ fn fill<S: Store>(server: &mut S, path: &str, contents: &[u8]) -> Result<Number,
 
 fn drop_one<S: Store>(server: &mut S, kind: Kind, path: &str) -> Result<Number, Refusal> {
     let number = bound(server, path)?;
-    let Some(status) = server.object(number) else {
-        return Err(Refusal::NoSuchObject);
-    };
-    if status.kind != kind {
-        return Err(Refusal::NoSuchObject);
+    match server.object(number) {
+        Some(status) if status.kind == kind => server.drop_object(number)?,
+        _ => return Err(Refusal::NoSuchObject),
     }
-    server.drop_object(number)?;
     Ok(number)
 }
 
 fn rename<S: Store>(server: &mut S, from: &str, to: &str) -> Result<Number, Refusal> {
-    let place = place(server, to);
-    Name::new(place.name)?;
+    let spot = Spot::at(server, to);
+    Name::new(spot.name)?;
     let number = bound(server, from)?;
-    server.move_object(number, place.directory, place.name)?;
+    let directory = spot.directory.ok_or(Refusal::NoSuchDirectory)?;
+    server.move_object(number, directory, spot.name)?;
     Ok(number)
 }
 
 // The server's next number, for a new object or a stamp, and the one after it.
-fn numbers<S: Store>(server: &S) -> Result<(Number, Number), Refusal> {
+fn numbers<V: TreeView>(server: &V) -> Result<(Number, Number), Refusal> {
     let next = server.next_number();
-    if next.0 >= Number::TEMPORARY.0 {
+    if next >= Number::TEMPORARY {
         return Err(Refusal::NumbersSpent);
     }
     Ok((next, Number(next.0 + 1)))
@@ -126,41 +111,35 @@ fn stamp(serial: Number) -> Stamp {
     }
 }
 
-// Where an object is or is to be.
+// Where an object is to be: the name, and the directory, if the path to it leads to an object.
 #[derive(Clone, Copy)]
 struct Spot<'a> {
-    directory: Number,
+    directory: Option<Number>,
     name: &'a [u8],
 }
 
-fn place<'a, S: Store>(server: &S, path: &'a str) -> Spot<'a> {
-    match path.rsplit_once('/') {
-        Some((directory, name)) => Spot {
-            directory: find(server, directory),
-            name: name.as_bytes(),
-        },
-        None => Spot {
-            directory: Number::ROOT,
-            name: path.as_bytes(),
-        },
-    }
-}
-
-fn find<S: Store>(server: &S, path: &str) -> Number {
-    let mut here = Number::ROOT;
-    for name in path.split('/') {
-        match server.look(here, name.as_bytes()) {
-            Some(number) => here = number,
-            None => return NOWHERE,
+impl<'a> Spot<'a> {
+    fn at<V: TreeView>(server: &V, path: &'a str) -> Spot<'a> {
+        match path.rsplit_once('/') {
+            Some((directory, name)) => Spot {
+                directory: find(server, directory),
+                name: name.as_bytes(),
+            },
+            None => Spot {
+                directory: Some(Number::ROOT),
+                name: path.as_bytes(),
+            },
         }
     }
-    here
 }
 
-fn bound<S: Store>(server: &S, path: &str) -> Result<Number, Refusal> {
-    let place = place(server, path);
-    match server.look(place.directory, place.name) {
-        Some(number) => Ok(number),
-        None => Err(Refusal::NoSuchObject),
-    }
+fn find<V: TreeView>(server: &V, path: &str) -> Option<Number> {
+    path.split('/').try_fold(
+        Number::ROOT,
+        |here, name| server.look(here, name.as_bytes()),
+    )
+}
+
+fn bound<V: TreeView>(server: &V, path: &str) -> Result<Number, Refusal> {
+    find(server, path).ok_or(Refusal::NoSuchObject)
 }

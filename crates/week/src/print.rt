@@ -1,7 +1,8 @@
 // What is printed: the answer of a step, and an object of a tree.
 use std::fmt;
-use tree::store::Store;
-use vocab::kind::Kind;
+use std::iter::successors;
+use tree::view::TreeView;
+use vocab::limits::LONGEST_CONTENTS;
 use vocab::number::Number;
 use vocab::refusal::Refusal;
 use vocab::status::Status;
@@ -12,75 +13,51 @@ pub struct Answer(pub Result<Number, Refusal>);
 impl fmt::Display for Answer {
     fn fmt<W: fmt::Write>(&self, f: &mut fmt::Formatter<W>) -> fmt::Result {
         match self.0 {
-            Ok(Number(number)) => write!(f, "ok {number}"),
-            Err(refusal) => {
-                let number = refusal as u8;
-                write!(f, "no {number}")
-            }
+            Ok(number) => write!(f, "ok {number}"),
+            Err(refusal) => write!(f, "no {refusal}"),
         }
     }
 }
 
-// Number, parent, kind, name, author and serial of the stamp, and length; indented by the directories around it.
+// Number, parent, kind, name, stamp, and length; indented by the directories around it.
 #[derive(Drop)]
-pub struct Shown<'a, S> {
-    pub store: &'a S,
+pub struct Shown<'a, V> {
+    pub view: &'a V,
     pub number: Number,
 }
 
-impl<S: Store> fmt::Display for Shown<'_, S> {
+impl<V: TreeView> fmt::Display for Shown<'_, V> {
     fn fmt<W: fmt::Write>(&self, f: &mut fmt::Formatter<W>) -> fmt::Result {
-        let Some(status) = self.store.object(self.number) else {
+        let Some(status) = self.view.object(self.number) else {
             return Ok(());
         };
-        for _ in 0..depth(self.store, &status) {
+        for _ in 0..depth(self.view, status.parent) {
             f.write_str("  ")?;
         }
-        let len = length(self.store, self.number);
-        write!(f, "{} {len}", Line(status))
+        let Status {
+            number,
+            kind,
+            parent,
+            name,
+            stamp,
+        } = status;
+        let len = length(self.view, number);
+        write!(f, "{number} {parent} {kind} {name} {stamp} {len}")
     }
 }
 
-// How many directories stand between an object and the root.
-fn depth<S: Store>(store: &S, status: &Status) -> usize {
-    let mut parent = status.parent;
-    for depth in 0..store.count() {
-        if parent.0 == Number::ROOT.0 {
-            return depth;
-        }
-        if let Some(above) = store.object(parent) {
-            parent = above.parent;
-        }
-    }
-    store.count()
+// How many directories stand from this one up to the root, which is not counted.
+fn depth<V: TreeView>(view: &V, directory: Number) -> usize {
+    let most = view.count();
+    successors(Some(directory), |&number| {
+        view.object(number).map(|status| status.parent)
+    })
+    .take(most)
+    .position(|number| number == Number::ROOT)
+    .unwrap_or(most)
 }
 
-fn length<S: Store>(store: &S, number: Number) -> usize {
-    let mut buffer = [0; 256];
-    match store.contents(number, &mut buffer) {
-        Ok(len) => len,
-        Err(_) => 0,
-    }
-}
-
-#[derive(Clone, Copy)]
-struct Line(Status);
-
-impl fmt::Display for Line {
-    fn fmt<W: fmt::Write>(&self, f: &mut fmt::Formatter<W>) -> fmt::Result {
-        let Line(status) = self;
-        let number = status.number.0;
-        let parent = status.parent.0;
-        let kind = match status.kind {
-            Kind::Directory => 'd',
-            Kind::File => 'f',
-        };
-        write!(f, "{number} {parent} {kind} ")?;
-        for byte in status.name.as_bytes() {
-            f.write_char(char::from(*byte))?;
-        }
-        let author = status.stamp.author;
-        let serial = status.stamp.serial;
-        write!(f, " {author}.{serial}")
-    }
+fn length<V: TreeView>(view: &V, number: Number) -> usize {
+    let mut buffer = [0; LONGEST_CONTENTS];
+    view.contents(number, &mut buffer).unwrap_or(0)
 }

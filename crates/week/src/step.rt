@@ -1,4 +1,4 @@
-// One step of the office's work, by paths from the root.
+// One step of the office's work, by paths from the root. It is data, since it is printed as well as taken.
 use std::fmt;
 
 #[derive(Clone, Copy)]
