@@ -34,7 +34,7 @@ pub fn has_children<V: TreeView>(view: &V, number: Number) -> bool
     view.child(number, Number::BEFORE_ALL).is_some()
 }
 
-// Whether `number` is `from` or stands above it.
+// Whether `number` is `from` or stands above it. No way up is longer than the capacity.
 pub fn encloses<V: TreeView>(view: &V, number: Number, from: Number) -> bool
     ensures { result ≡ climbs (V.tree view.now).capacity number from (V.tree view.now).objects }
 {

@@ -1,4 +1,4 @@
-// Changes of a store as values, for tables of cases.
+// Changes of a store as values, for tables of cases; a failed test prints the change.
 use tree::store::Store;
 use vocab::kind::Kind;
 use vocab::number::Number;

@@ -99,7 +99,7 @@ fn is_valid(name: &[u8]) -> bool
     name.iter().all(|&b| is_name_byte(b))
 }
 
-// Whether two names are the same one. No `==` at each place: as `same_name` in the definitions, it stands once.
+// Whether two names are the same one. `==` at each place would be no shorter, and here the rule stands once.
 pub fn same(m: &[u8], n: &[u8]) -> bool
     ensures { result ≡ same_name m.now n.now }
 {
