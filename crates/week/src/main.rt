@@ -7,6 +7,7 @@ mod step;
 
 use listing::Listing;
 use print::{Answer, Shown};
+use std::io;
 use step::Step;
 use table::Table;
 use tree::store::Store;
@@ -24,7 +25,7 @@ const ROWS: usize = 8;
 // The office, whoever works at the server itself.
 const OFFICE: u16 = 0;
 
-fn main(rt: HostRuntime) -> anyhow::Result<()> {
+fn main(rt: HostRuntime) -> io::Result<()> {
     let mut server = Table::open(Vec::from_array(rt.alloc(), [None; ROWS])?);
     println!(rt; "Monday")?;
     for step in &monday::STEPS {
@@ -35,11 +36,15 @@ fn main(rt: HostRuntime) -> anyhow::Result<()> {
 }
 
 // Each object, followed by all beneath it.
-fn show<V: TreeView>(rt: &HostRuntime, view: &V) -> anyhow::Result<()> {
+fn show<V: TreeView>(rt: &HostRuntime, view: &V) -> io::Result<()> {
     let count = view.count();
     println!(rt; "{count} objects, next number {}", view.next_number())?;
     let mut list = vec![in rt.alloc(); Number(0); count]?;
-    for number in Listing::new(view, &mut list)? {
+    let listing = match Listing::new(view, &mut list) {
+        Ok(listing) => listing,
+        Err(refusal) => return println!(rt; "{}", Answer(Err(refusal))),
+    };
+    for number in listing {
         println!(rt; "{}", Shown { view, number })?;
     }
     Ok(())
