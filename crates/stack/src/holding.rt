@@ -29,7 +29,8 @@ impl<'a, T: Copy> Stack<'a, T> {
 
     // Refused where all places are taken.
     pub fn push(&mut self, x: T) -> Result<(), Refusal>
-        ensures { (self.new, result) ≡ pushed x self.old }
+        ensures held { (self.new, result) ≡ pushed x self.old }
+        ensures within { length self.new.held ≤ self.new.places }
     {
         if self.len == self.places() {
             return Err(Refusal::ListShort);
@@ -41,7 +42,8 @@ impl<'a, T: Copy> Stack<'a, T> {
 
     // Takes the last that came.
     pub fn pop(&mut self) -> Option<T>
-        ensures { (self.new, result) ≡ popped self.old }
+        ensures held { (self.new, result) ≡ popped self.old }
+        ensures within { length self.new.held ≤ self.new.places }
     {
         self.len = self.len.checked_sub(1)?;
         Some(self.room[self.len])
@@ -49,7 +51,8 @@ impl<'a, T: Copy> Stack<'a, T> {
 
     // The last that came, which stays.
     pub fn top(&self) -> Option<T>
-        ensures { result ≡ first self.now.held }
+        ensures held { result ≡ first self.now.held }
+        ensures within { length self.now.held ≤ self.now.places }
     {
         self.room[..self.len].last().copied()
     }

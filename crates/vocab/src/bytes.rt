@@ -63,7 +63,8 @@ impl<const N: usize> Bytes<N> {
 
     // The bytes, and zeros behind them.
     pub fn filled(&self) -> &[u8]
-        ensures { result.now ≡ padded N self.now }
+        ensures value { result.now ≡ padded N self.now }
+        ensures short { length self.now ≤ N }
     {
         self.held.as_slice()
     }

@@ -59,7 +59,9 @@ impl Name {
 
     // The name's bytes, and zeros behind them.
     pub fn filled(&self) -> &[u8]
-        ensures { result.now ≡ padded longest_name self.now }
+        ensures value { result.now ≡ padded longest_name self.now }
+        ensures short { length self.now ≤ longest_name }
+        ensures sound { name_or_none self.now ≡ true }
     {
         self.text.filled()
     }

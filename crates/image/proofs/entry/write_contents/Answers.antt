@@ -8,7 +8,7 @@ use Rattle.format.proofs.Writing.{then}
 use Rattle.image.proofs.entry.write_contents.Goals as goal
 
 pub write-requires-2 : goal.write-requires-2
-write-requires-2 c = omega (arith, ap length c.filled.ensures, length_padded 256 c.args.contents.now)
+write-requires-2 c = omega (arith, ap length c.filled.ensures.value, length_padded 256 c.args.contents.now)
 
 pub returns : goal.returns
 unfolding contents_field le16
@@ -18,6 +18,6 @@ returns c =
     let cs = c.args.contents.now in
     then bs (le16 (length cs)) (padded longest_contents cs) at (at + 2)
     (c.write.ensures ∙ ap (written bs at) (c.to_le_bytes.ensures ∙ ap (λ m. le16 (length m)) c.as_slice.ensures.value))
-    (c.write-2.ensures ∙ ap (written c.write.new.bytes (at + 2)) c.filled.ensures)
+    (c.write-2.ensures ∙ ap (written c.write.new.bytes (at + 2)) c.filled.ensures.value)
     refl
     (omega (arith, length_padded 256 cs))

@@ -8,7 +8,7 @@ use Rattle.format.proofs.Writing.{then}
 use Rattle.image.proofs.entry.write_name.Goals as goal
 
 pub write-requires-2 : goal.write-requires-2
-write-requires-2 c = omega (arith, ap length c.filled.ensures, length_padded 24 c.args.name.now)
+write-requires-2 c = omega (arith, ap length c.filled.ensures.value, length_padded 24 c.args.name.now)
 
 pub returns : goal.returns
 unfolding name_field
@@ -18,6 +18,6 @@ returns c =
     let n = c.args.name.now in
     then bs (length n ∷ []) (padded longest_name n) at (at + 1)
     (c.write.ensures ∙ ap (λ m. written bs at (length m ∷ [])) c.as_bytes.ensures.value)
-    (c.write-2.ensures ∙ ap (written c.write.new.bytes (at + 1)) c.filled.ensures)
+    (c.write-2.ensures ∙ ap (written c.write.new.bytes (at + 1)) c.filled.ensures.value)
     refl
     (omega (arith, length_padded 24 n))
