@@ -1,9 +1,9 @@
 -- How the objects of a table follow its rows. Assumes nothing.
-use Rattle.std.proofs.Common.{◌≡◌, nat_lt, ℕ, zero, suc, min, Bool, true, false, cond, not, ◌&&◌, List, [], ◌∷◌, length, get_or, set, replicate, Some, None, Option, sym, refl, ap, ◌∙◌, ⊎_elim, arith}
+use Rattle.std.proofs.Common.{◌≡◌, nat_lt, ℕ, zero, suc, min, Bool, true, false, cond, not, ◌&&◌, List, [], ◌∷◌, ◌++◌, length, get_or, set, replicate, is_some as option_is_some, Some, None, Option, sym, refl, ap, ◌∙◌, ⊎_elim, arith}
 use Rattle.std.specs.Option.{option_map}
 use Rattle.std.specs.List.{reduce, filter_map, cons_option, fold}
 use Rattle.std.proofs.Math.Nat.{min_comm}
-use Rattle.std.proofs.lemmas.Bool.{both_ways, or_from, eqb-true, eqb-false, ne_eqb, cases_eq, cond-true, cond-false}
+use Rattle.std.proofs.lemmas.Bool.{both_ways, or_from, or_left, or_right, eqb-true, eqb-false, ne_eqb, cases_eq, cond-true, cond-false}
 use Rattle.tree.specs.Questions.{child, child_of, smaller}
 use Rattle.tree.specs.Trees.{Ascends, Object, at, change, change_one, insert, is, some_of, without}
 use Rattle.tree.proofs.Ascending.{ascends_uninsert, at_insert_other, at_insert_own, change_none, without_none}
@@ -25,9 +25,20 @@ module _ (p : Object → Bool) where
   some_nowhere (None ∷ rows) h = some_nowhere rows h.1
   some_nowhere (Some e ∷ rows) h = some_insert p (object_of e) (objects_in rows) ∙ or_from (p (object_of e)) _ h.0 (some_nowhere rows h.1)
 
+  pub some_first : (rows : List (Option Entry)) (i : ℕ) → FirstAt (on p) rows i → some_of p (objects_in rows) ≡ true
+  some_first [] i h = absurd h
+  some_first (None ∷ rows) zero h = absurd (both_ways false refl h)
+  some_first (Some e ∷ rows) zero h = some_insert p (object_of e) (objects_in rows) ∙ or_left (p (object_of e)) _ h
+  some_first (None ∷ rows) (suc i) h = some_first rows i h.1
+  some_first (Some e ∷ rows) (suc i) h = some_insert p (object_of e) (objects_in rows) ∙ or_right (p (object_of e)) _ (some_first rows i h.1)
+
+  pub some_searched : (rows : List (Option Entry)) (r : Option Place) → Searched p rows r → option_is_some r ≡ some_of p (objects_in rows)
+  some_searched rows None w = sym (some_nowhere rows w)
+  some_searched rows (Some f) w = sym (some_first rows f.index w.first)
+
 -- ---- what stands at a number
 module _ (x : ℕ) where
-  at_nowhere : (rows : List (Option Entry)) → Nowhere (on (is x)) rows → at x (objects_in rows) ≡ None
+  pub at_nowhere : (rows : List (Option Entry)) → Nowhere (on (is x)) rows → at x (objects_in rows) ≡ None
   at_nowhere [] h = refl
   at_nowhere (None ∷ rows) h = at_nowhere rows h.1
   at_nowhere (Some e ∷ rows) h = at_insert_other (object_of e) (objects_in rows) x (eqb-false e.number x h.0) ∙ at_nowhere rows h.1
@@ -104,6 +115,12 @@ rows_full (None ∷ rows) h = absurd (both_ways true h.0 refl)
 rows_full (Some e ∷ rows) h = let ih = rows_full rows h.1 in omega (arith, length_insert (object_of e) (objects_in rows))
 
 -- ---- rows that hold nothing
+-- a free row behind the others
+pub rows_longer : (rows : List (Option Entry)) → objects_in (rows ++ None ∷ []) ≡ objects_in rows
+rows_longer [] = refl
+rows_longer (None ∷ rows) = rows_longer rows
+rows_longer (Some e ∷ rows) = ap (insert (object_of e)) (rows_longer rows)
+
 rows_free : (n : ℕ) → objects_in (replicate n None) ≡ []
 rows_free zero = refl
 rows_free (suc n) = rows_free n

@@ -23,7 +23,7 @@ module _ (p : Option Entry → Bool) where
   place_by rows None h = nowhere_by rows h
   place_by rows (Some i) h = (first_by rows i h.0 h.1 h.2, h.0)
 
-  first_passes : (rows : List (Option Entry)) (i : ℕ) → FirstAt p rows i → p (get_or rows i None) ≡ true
+  pub first_passes : (rows : List (Option Entry)) (i : ℕ) → FirstAt p rows i → p (get_or rows i None) ≡ true
   first_passes [] i h = absurd h
   first_passes (r ∷ rows) zero h = h
   first_passes (r ∷ rows) (suc i) h = first_passes rows i h.1

@@ -1,5 +1,6 @@
 -- What rows of memory stand for. Assumes nothing. A row holds an entry, or is None, which is free.
 --     object_of e        the object that an entry holds
+--     Bounded e          its name is a valid one or empty, and its contents are few enough
 --     objects_in rows    the objects of the rows, by number
 --     capacity_of rows   how many of the rows can be used: all, but at most 4,096
 --     tree_in rows n     the tree that the rows stand for, with next number n
@@ -9,8 +10,10 @@
 --     FirstAt p rows i   the test p passes at i, and at no place before it
 --     Nowhere p rows     it passes at no place
 --     Searched p rows r  r is the first place whose object passes p, with its entry, or none
-use Rattle.std.specs.Prelude.{◌≡◌, ℕ, zero, suc, ◌<◌, min, Bool, true, false, cond, List, [], ◌∷◌, length, Some, None, Option, slice_index_or}
-use Rattle.vocab.specs.Limits.{most_objects}
+use Rattle.std.specs.Prelude.{◌≡◌, ℕ, zero, suc, ◌<◌, ◌≤◌, min, Bool, true, false, cond, List, [], ◌∷◌, length, Some, None, Option, slice_index_or}
+use Rattle.vocab.specs.Limits.{longest_contents, most_objects}
+use Rattle.vocab.specs.Names.{name_or_none}
+use Rattle.tree.specs.Questions.{contents}
 use Rattle.tree.specs.Trees.{Body, dir, file, Object, Tree, insert}
 use Rattle.rows.specs.declared.row.Body.{Body as BodyRow}
 use Rattle.rows.specs.declared.row.Body.TheVariants.{Directory, File}
@@ -23,6 +26,9 @@ body_of (File c) = file c
 
 abbrev pub object_of : Entry → Object
 object_of e = record { number = e.number; parent = e.parent; name = e.name; stamp = e.stamp; body = body_of e.body }
+
+abbrev pub Bounded : Entry → Type 0
+Bounded e = (name_or_none e.name ≡ true) × (length (contents (object_of e)) ≤ longest_contents)
 
 abbrev pub objects_in : List (Option Entry) → List Object
 objects_in [] = []

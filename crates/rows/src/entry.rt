@@ -1,8 +1,10 @@
 // What a row's entry shows of its object.
-ghost use Rattle.std.specs.Prelude.{◌≡◌};
+ghost use Rattle.std.specs.Prelude.{◌≡◌, ◌≤◌, true, length};
+ghost use Rattle.vocab.specs.Limits.{longest_contents};
+ghost use Rattle.vocab.specs.Names.{name_or_none};
 ghost use Rattle.tree.specs.Questions.{directory, contents, kind_of, new_body, bare};
 ghost use Rattle.tree.specs.Meaning.{status_of};
-ghost use Rattle.rows.specs.Rows.{body_of, object_of};
+ghost use Rattle.rows.specs.Rows.{body_of, object_of, Bounded};
 
 use crate::row::{Body, Entry};
 use vocab::bytes::Contents;
@@ -21,6 +23,16 @@ impl Body {
 }
 
 impl Entry {
+    // Does nothing: whoever calls it is told what the types of the name and of the contents hold.
+    pub(crate) fn tell_bounds(&self)
+        ensures { Bounded self.now }
+    {
+        let _ = self.name.as_bytes();
+        if let Body::File(contents) = &self.body {
+            let _ = contents.as_slice();
+        }
+    }
+
     fn kind(&self) -> Kind
         ensures { result ≡ kind_of (object_of self.now) }
     {
@@ -37,8 +49,10 @@ impl Entry {
     }
 
     pub fn held(&self) -> Contents
-        ensures { result ≡ contents (object_of self.now) }
+        ensures value { result ≡ contents (object_of self.now) }
+        ensures short { length result ≤ longest_contents }
     {
+        self.tell_bounds();
         match self.body {
             Body::Directory => Contents::empty(),
             Body::File(contents) => contents,
@@ -46,8 +60,10 @@ impl Entry {
     }
 
     pub fn status(&self) -> Status
-        ensures { status_of result ≡ bare (object_of self.now) }
+        ensures value { status_of result ≡ bare (object_of self.now) }
+        ensures sound { name_or_none result.name ≡ true }
     {
+        self.tell_bounds();
         Status {
             number: self.number,
             kind: self.kind(),

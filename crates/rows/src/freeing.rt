@@ -7,5 +7,5 @@ use crate::row::Row;
 pub fn free_all(rows: &mut [Row])
     ensures { objects_in rows.new ≡ [] }
 {
-    rows.fill(None);
+    rows.fill_with(|| None);
 }

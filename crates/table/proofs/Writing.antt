@@ -27,7 +27,7 @@ use Rattle.table.specs.declared.Table.{Table}
 use Rattle.table.specs.Tables.{rows_of, tree_of}
 
 -- ---- whatever a row holds stands at its number
-at_row : (rows : List (Option Entry)) (i : ℕ) (e : Entry) → Ascends 2 (objects_in rows) → get_or rows i None ≡ Some e → at e.number (objects_in rows) ≡ Some (object_of e)
+pub at_row : (rows : List (Option Entry)) (i : ℕ) (e : Entry) → Ascends 2 (objects_in rows) → get_or rows i None ≡ Some e → at e.number (objects_in rows) ≡ Some (object_of e)
 at_row [] i e s h = let z : ◌≡◌ {A = ℕ} 0 1 = cc in absurd (omega arith)
 at_row (None ∷ rows) zero e s h = let z : ◌≡◌ {A = ℕ} 0 1 = cc in absurd (omega arith)
 at_row (Some d ∷ rows) zero e s h = let k : d ≡ e = cc in ap (λ z. at z.number (insert (object_of d) (objects_in rows))) (sym k) ∙ at_insert_own (object_of d) (objects_in rows) ∙ ap (λ z. Some (object_of z)) k
@@ -36,6 +36,10 @@ at_row (Some d ∷ rows) (suc i) e s h =
     let v = ascends_uninsert 2 (object_of d) (objects_in rows) (split_rows rows) s in
     let ih = at_row rows i e v.0 h in
     at_insert_other (object_of d) (objects_in rows) e.number (λ q. let z : None ≡ Some (object_of e) = sym v.1 ∙ ap (λ y. at y (objects_in rows)) q ∙ ih in let k : ◌≡◌ {A = ℕ} 0 1 = cc in omega arith) ∙ ih
+
+pub look_searched : (rows : List (Option Entry)) (next p : ℕ) (n : List ℕ) (r : Option Place) → Searched (placed p n) rows r → Lawful (tree_in rows next) → option_map (λ f. f.entry.number) r ≡ look p n (objects_in rows)
+look_searched rows next p n None w law = sym (look_none p n (objects_in rows) (some_nowhere (placed p n) rows w))
+look_searched rows next p n (Some f) w law = sym (look_found (tree_in rows next) law p n f.entry.number (object_of f.entry) (at_row rows f.index f.entry law.ascending w.row) (found_passes (placed p n) rows f w))
 
 -- rows, a next number and a count, as a change that was accepted leaves them
 pub record Written (rows : List (Option Entry)) (next count : ℕ) (c : Changed) : Type 0 where
@@ -48,10 +52,6 @@ module _ (self : Table) where
 
   abbrev tree : Tree
   tree = tree_of self
-
-  pub look_searched : (p : ℕ) (n : List ℕ) (r : Option Place) → Searched (placed p n) rows r → option_map (λ f. f.entry.number) r ≡ look p n (objects_in rows)
-  look_searched p n None w = sym (look_none p n (objects_in rows) (some_nowhere (placed p n) rows w))
-  look_searched p n (Some f) w = sym (look_found tree self.lawful p n f.entry.number (object_of f.entry) (at_row rows f.index f.entry self.lawful.ascending w.row) (found_passes (placed p n) rows f w))
 
   -- ---- what each change of a table writes
   written : (i : ℕ) (r : Option Entry) (count : ℕ) (cs : List Check) (l : List Object) → Holds cs → objects_in (set rows i r) ≡ l → count ≡ length l → Lawful (change_if tree cs l).0 → Written (set rows i r) self.next count (change_if tree cs l)

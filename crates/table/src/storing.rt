@@ -1,6 +1,6 @@
 // A table as a store. By let-else: `ok_or(..)?` on a place was tried, and has no proof in `drop_object`.
 use crate::Table;
-use asking::questions::{encloses, has_children, has_name, holds, is_directory};
+use asking::questions::{encloses, has_name, holds, is_directory};
 use rows::freeing::free_all;
 use rows::row::{Body, Entry};
 use rows::search::first_free;
@@ -64,7 +64,7 @@ impl Store for Table {
         let Some(place) = self.find(number) else {
             return Err(Refusal::NoSuchObject);
         };
-        if has_children(self, number) {
+        if self.has_children(number) {
             return Err(Refusal::HasChildren);
         }
         self.rows[place.index] = None;
