@@ -37,7 +37,7 @@ module _ (s : Image) where
     objects = insert (status_of e) (tree_of s).objects
 
     -- where there is room for an object, there is an image
-    large : LEAST_SIZE ≤ length (bytes_of s)
+    pub large : LEAST_SIZE ≤ length (bytes_of s)
     unfolding tree_of
     large = enough (bytes_of s) s.next s.directories s.files (law s) s.held (omega (arith, room))
 
@@ -45,7 +45,7 @@ module _ (s : Image) where
     unfolding tree_of
     less = omega (arith, room, count_objects (bytes_of s) s.next s.directories s.files)
 
-    room_behind : size (store_sections s) + entry_size e.kind ≤ length (bytes_of s)
+    pub room_behind : size (store_sections s) + entry_size e.kind ≤ length (bytes_of s)
     unfolding tree_of
     room_behind = room_for (bytes_of s) s.next s.directories s.files (law s) s.held e.kind less
 

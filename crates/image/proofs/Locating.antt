@@ -26,7 +26,7 @@ module _ (t : Tree) (lawful : Lawful t) (x : ℕ) where
       let own = at_in_section t lawful k x (get_or l i nothing) there in
       record { within = h.0; here = own.0; number = h.1; kind = own.1 }
 
-  absent : (k : Kind) (i : ℕ) → Located x (section k (sections_of t)) (Err i) → at x (section k (sections_of t)) ≡ None
+  pub absent : (k : Kind) (i : ℕ) → Located x (section k (sections_of t)) (Err i) → at x (section k (sections_of t)) ≡ None
   absent k i h = at_between nothing 2 (section k (sections_of t)) (section_ascends t lawful k) x i h.0 h.1 (λ l. h.2 i (omega arith) l)
 
   abbrev places : Kind → Option ℕ → Option Place
@@ -37,11 +37,11 @@ module _ (t : Tree) (lawful : Lawful t) (x : ℕ) where
   found_in k (Ok i) r e h = subst (λ r. FoundIn k x t (places k r)) (sym e) (refl, stands k i h)
   found_in k (Err i) r e h = subst (λ r. FoundIn k x t (places k r)) (sym e) (absent k i h)
 
-  nowhere : FoundIn Directory x t None → FoundIn File x t None → at x t.objects ≡ None
+  pub nowhere : FoundIn Directory x t None → FoundIn File x t None → at x t.objects ≡ None
   nowhere d f = at_sections x 2 t.objects lawful.ascending ∙ (λ i. or_else (d i) (f i))
 
   -- no file, where the files have none of this number
-  no_file : FoundIn File x t None → is_file (at x t.objects) ≡ false
+  pub no_file : FoundIn File x t None → is_file (at x t.objects) ≡ false
   no_file h = go (at x t.objects) (sym (at_keep regular x 2 t.objects lawful.ascending) ∙ h)
     where
       go : (u : Option Object) → only regular u ≡ None → is_file u ≡ false
@@ -60,14 +60,14 @@ module _ (t : Tree) (lawful : Lawful t) (x : ℕ) where
 -- ---- by a test
 
 module _ (t : Tree) (q : Object → Bool) where
-  picked : (k : Kind) (p : Place) → First k q (sections_of t) (Some p) → Picked q t (Some p)
+  pub picked : (k : Kind) (p : Place) → First k q (sections_of t) (Some p) → Picked q t (Some p)
   picked k p h = (some_sections q t.objects ∙ by p.kind (some_at_place nothing q (section p.kind (sections_of t)) p.index h.1 h.2), h.1, h.2)
     where
       by : (k : Kind) → some_of q (section k (sections_of t)) ≡ true → (some_of q (sections_of t).directories || some_of q (sections_of t).files) ≡ true
       by Directory e = ap (λ b. b || some_of q (sections_of t).files) e
       by File e = grind (arith, cases_Bool (some_of q (sections_of t).directories))
 
-  unpicked : First Directory q (sections_of t) None → First File q (sections_of t) None → some_of q t.objects ≡ false
+  pub unpicked : First Directory q (sections_of t) None → First File q (sections_of t) None → some_of q t.objects ≡ false
   unpicked d f =
       let e = some_nowhere nothing q (sections_of t).directories d in
       let g = some_nowhere nothing q (sections_of t).files f in

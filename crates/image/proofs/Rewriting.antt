@@ -27,7 +27,7 @@ module _ (s : Image) (p : Place) (within : p.index < length (section p.kind (sto
   pub own : Stands (found (tree_of s) p).number (tree_of s) p
   own = stands (tree_of s) (law s) (found (tree_of s) p).number p.kind p.index (within, refl)
 
-  entry_held : section_at p.kind (store_sections s) + entry_size p.kind * p.index + entry_size p.kind ≤ size (store_sections s)
+  pub entry_held : section_at p.kind (store_sections s) + entry_size p.kind * p.index + entry_size p.kind ≤ size (store_sections s)
   entry_held =
       let more = place_low s p.kind (p.index + 1) (omega arith) in
       omega (arith, mul-add (entry_size p.kind) p.index 1)
@@ -40,7 +40,7 @@ module _ (s : Image) (p : Place) (within : p.index < length (section p.kind (sto
   pub closable : (at end w : ℕ) → at ≡ section_at p.kind (store_sections s) + entry_size p.kind * p.index → end ≡ size (store_sections s) → w ≡ entry_size p.kind → (bs : List ℕ) → bs ≡ bytes_of s → (at + w ≤ end) × (end ≤ length bs)
   closable at end w at-is end_is w-is bs same = (omega (arith, entry_held), omega (arith, ap length same, place_held s p.kind p.index within))
 
-  large : LEAST_SIZE ≤ length (bytes_of s)
+  pub large : LEAST_SIZE ≤ length (bytes_of s)
   unfolding tree_of
   large =
       let own = some (bytes_of s) s.next s.directories s.files (law s) s.held p.kind p.index within in

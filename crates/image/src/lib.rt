@@ -28,5 +28,6 @@ mod finding;
 mod gap;
 mod head;
 mod place;
+mod questions;
 mod reading;
 mod search;
