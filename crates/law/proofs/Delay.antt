@@ -1,5 +1,5 @@
 -- A store moved behind records that neither store nor remove its file. Assumes nothing.
-use Rattle.std.proofs.Common.{◌≡◌, ℕ, zero, suc, Bool, true, false, not, ◌||◌, eqb, ltb, List, [], ◌∷◌, map, Some, None, Option, sym, refl, ap, ◌∙◌, subst, rules, arith}
+use Rattle.std.proofs.Common.{◌≡◌, ℕ, zero, suc, Bool, true, false, cond, not, ◌||◌, eqb, ltb, List, [], ◌∷◌, map, Some, None, Option, sym, refl, ap, ◌∙◌, subst, rules, arith}
 use Rattle.std.specs.Option.{option_map}
 use Rattle.std.proofs.lemmas.Bool.{both_ways, or_parts, eqb-true, eqb-false, ne_eqb}
 use Rattle.tree.proofs.Ascending.{at_insert_other}
@@ -91,6 +91,20 @@ module _ (f : ℕ) (s t : Stamp) (c : List ℕ) (l : List Object) where
 -- a file that is there is not born
 pub unborn : (cap f : ℕ) (e : Edit) (l : List Object) → is_file (at f l) ≡ true → Holds (tests cap e l) → births f e ≡ false
 unborn cap f e l here h = grind (arith, nat_tests)
+
+unfoldable pub first : List Object → Option Object
+first [] = None
+first (o ∷ l) = Some o
+
+-- the first of all objects of a number stands at it
+pub at_first : (f : ℕ) (l : List Object) → at f l ≡ first (keep (is f) l)
+unfolding first
+at_first f [] = refl
+at_first f (o ∷ l) = go (at_first f l) (is f o)
+  where
+    go : at f l ≡ first (keep (is f) l) → (b : Bool) → cond b (Some o) (at f l) ≡ first (cond b (o ∷ keep (is f) l) (keep (is f) l))
+    go ih true = refl
+    go ih false = ih
 
 -- one object more, of another number
 pub at_insert : (f : ℕ) (o : Object) (l : List Object) → is f o ≡ false → at f (insert o l) ≡ at f l

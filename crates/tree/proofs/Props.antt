@@ -1,5 +1,6 @@
 -- `Lawful` has one proof at most. Assumes nothing.
 use Rattle.std.proofs.Common.{◌≡◌, ℕ, suc, ◌^◌, ◌<◌, ◌≤◌, true, List, [], ◌∷◌, length, Some}
+use mathlib.Core.Logic.{∥∥₁_elim}
 use denote.Struct.Props.{props}
 use std.HLevel.{Π_prop}
 use Rattle.vocab.specs.Limits.{temporary}
@@ -30,3 +31,6 @@ lawful_prop t p q =
     let e : IsProp ((x y : ℕ) (o p : Object) → at x t.objects ≡ Some o → at y t.objects ≡ Some p → placed o.parent o.name p ≡ true → x ≡ y) = Π_prop (λ x. Π_prop (λ y. Π_prop (λ o. Π_prop (λ p. Π_prop (λ _. Π_prop (λ _. Π_prop (λ _. hlevel props))))))) in
     let f : IsProp (length t.objects ≤ t.capacity) = hlevel props in
     λ i. record { next_low = a p.next_low q.next_low i; next_high = b p.next_high q.next_high i; ascending = ascends_prop 2 t.objects p.ascending q.ascending i; each = d p.each q.each i; names = e p.names q.names i; room = f p.room q.room i }
+
+pub untold : (t : Tree) → ∥ Lawful t ∥₁ → Lawful t
+untold t h = ∥∥₁_elim h (lawful_prop t) (λ x. x)
