@@ -23,14 +23,14 @@ module _ (p : Option Entry → Bool) where
   place_by rows None h = nowhere_by rows h
   place_by rows (Some i) h = (first_by rows i h.0 h.1 h.2, h.0)
 
-  pub first_passes : (rows : List (Option Entry)) (i : ℕ) → FirstAt p rows i → p (get_or rows i None) ≡ true
-  first_passes [] i h = absurd h
-  first_passes (r ∷ rows) zero h = h
-  first_passes (r ∷ rows) (suc i) h = first_passes rows i h.1
+  pub first_passes : (rows : List (Option Entry)) (i : ℕ) (d : Option Entry) → FirstAt p rows i → p (get_or rows i d) ≡ true
+  first_passes [] i d h = absurd h
+  first_passes (r ∷ rows) zero d h = h
+  first_passes (r ∷ rows) (suc i) d h = first_passes rows i d h.1
 
 module _ (p : Object → Bool) (rows : List (Option Entry)) where
   pub found_by : (f : Place) → f.index < length rows → get_or rows f.index None ≡ Some f.entry → p (object_of f.entry) ≡ true → FailsBelow (on p) rows f.index → Found p rows f
   found_by f within row passes before = record { first = first_by (on p) rows f.index within (ap (on p) row ∙ passes) before; row = row; within = within }
 
   pub found_passes : (f : Place) → Found p rows f → p (object_of f.entry) ≡ true
-  found_passes f w = ap (on p) (sym w.row) ∙ first_passes (on p) rows f.index w.first
+  found_passes f w = ap (on p) (sym w.row) ∙ first_passes (on p) rows f.index None w.first

@@ -1,7 +1,5 @@
 // What a row's entry shows of its object.
-ghost use Rattle.std.specs.Prelude.{◌≡◌, ◌≤◌, true, length};
-ghost use Rattle.vocab.specs.Limits.{longest_contents};
-ghost use Rattle.vocab.specs.Names.{name_or_none};
+ghost use Rattle.std.specs.Prelude.{◌≡◌};
 ghost use Rattle.tree.specs.Questions.{directory, contents, kind_of, new_body, bare};
 ghost use Rattle.tree.specs.Meaning.{status_of};
 ghost use Rattle.rows.specs.Rows.{body_of, object_of, Bounded};
@@ -23,8 +21,8 @@ impl Body {
 }
 
 impl Entry {
-    // Does nothing: whoever calls it is told what the types of the name and of the contents hold.
-    pub(crate) fn tell_bounds(&self)
+    // Does nothing: its callers are told what the types of the name and of the contents hold.
+    fn tell_bounds(&self)
         ensures { Bounded self.now }
     {
         let _ = self.name.as_bytes();
@@ -43,14 +41,16 @@ impl Entry {
     }
 
     pub fn is_directory(&self) -> bool
-        ensures { result ≡ directory (object_of self.now) }
+        ensures value { result ≡ directory (object_of self.now) }
+        ensures bounded { Bounded self.now }
     {
+        self.tell_bounds();
         self.kind() == Kind::Directory
     }
 
     pub fn held(&self) -> Contents
         ensures value { result ≡ contents (object_of self.now) }
-        ensures short { length result ≤ longest_contents }
+        ensures bounded { Bounded self.now }
     {
         self.tell_bounds();
         match self.body {
@@ -61,7 +61,7 @@ impl Entry {
 
     pub fn status(&self) -> Status
         ensures value { status_of result ≡ bare (object_of self.now) }
-        ensures sound { name_or_none result.name ≡ true }
+        ensures bounded { Bounded self.now }
     {
         self.tell_bounds();
         Status {

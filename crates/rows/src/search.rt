@@ -1,13 +1,13 @@
 // Searches through rows.
-ghost use Rattle.std.specs.Prelude.{◌≡◌, ◌<◌, Bool, min, length, IfSome, MatchOption};
+ghost use Rattle.std.specs.Prelude.{◌≡◌, ◌<◌, Bool, min, length, MatchOption};
 ghost use Rattle.std.specs.List.{filter_map, reduce};
 ghost use Rattle.asking.specs.Tests.{passing};
 ghost use Rattle.tree.specs.Trees.{Object};
 ghost use Rattle.tree.specs.Questions.{child};
-ghost use Rattle.rows.specs.Rows.{object_of, Bounded, objects_in, free as free_row, number_if, FirstAt, Nowhere, Searched};
+ghost use Rattle.rows.specs.Rows.{object_of, objects_in, free as free_row, number_if, FirstAt, Nowhere, Searched};
 
 use crate::row::{Entry, Row};
-use asking::test::{self, Follows};
+use asking::test::{Follows, Test as HeadTest};
 use vocab::number::Number;
 
 // What a search through rows looks for, by all that an entry holds. Each test of `asking` is one.
@@ -18,11 +18,11 @@ pub trait Test {
         ensures { result ≡ passes self.now (object_of entry.now) };
 }
 
-impl<T: test::Test> Test for T {
+impl<T: HeadTest> Test for T {
     ghost passes = { λ t. passing (T.passes t) };
 
     fn test(&self, entry: &Entry) -> bool {
-        test::Test::test(self, entry)
+        HeadTest::test(self, entry)
     }
 }
 
@@ -34,14 +34,12 @@ pub struct Place {
 
 // The first row whose object passes a test.
 pub fn first<T: Test>(rows: &[Row], test: &T) -> Option<Place>
-    ensures found { Searched (T.passes test.now) rows.now result }
-    ensures bounded { IfSome result (λ f. Bounded f.entry) }
+    ensures { Searched (T.passes test.now) rows.now result }
 {
     // No `find_map`: with it, a trial run that fills 5,000 rows did not end within its minute.
     for (index, row) in rows.iter().enumerate() {
         if let Some(entry) = row {
             if test.test(entry) {
-                entry.tell_bounds();
                 return Some(Place {
                     index,
                     entry: *entry,
@@ -59,7 +57,7 @@ pub fn first_free(rows: &[Row]) -> Option<usize>
 }
 
 // The smallest number of an object that passes a test.
-fn least_that<T: test::Test>(rows: &[Row], test: &T) -> Option<Number>
+fn least_that<T: HeadTest>(rows: &[Row], test: &T) -> Option<Number>
     ensures { result ≡ reduce min (filter_map (number_if (passing (T.passes test.now))) rows.now) }
 {
     rows.iter()

@@ -22,7 +22,8 @@ impl<'a, T: Copy> Stack<'a, T> {
     }
 
     pub fn clear(&mut self)
-        ensures { self.new ≡ pile self.old.places [] }
+        ensures held { self.new ≡ pile self.old.places [] }
+        ensures within { length self.old.held ≤ self.old.places }
     {
         self.len = 0;
     }
@@ -43,7 +44,7 @@ impl<'a, T: Copy> Stack<'a, T> {
     // Takes the last that came.
     pub fn pop(&mut self) -> Option<T>
         ensures held { (self.new, result) ≡ popped self.old }
-        ensures within { length self.new.held ≤ self.new.places }
+        ensures within { length self.old.held ≤ self.old.places }
     {
         self.len = self.len.checked_sub(1)?;
         Some(self.room[self.len])

@@ -68,7 +68,8 @@ impl Name {
 
     // No `==`: the other need not be valid, so there may be no `Name` of it.
     pub fn is(&self, name: &[u8]) -> bool
-        ensures { result ≡ same_name self.now name.now }
+        ensures value { result ≡ same_name self.now name.now }
+        ensures sound { name_or_none self.now ≡ true }
     {
         same(self.as_bytes(), name)
     }

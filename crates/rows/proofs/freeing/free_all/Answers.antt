@@ -1,4 +1,4 @@
-use Rattle.std.proofs.Common.{◌≡◌, None, [], ◌∷◌, ◌++◌, refl, ap, ◌∙◌, rules}
+use Rattle.std.proofs.Common.{◌≡◌, [], ◌∷◌, ◌++◌, refl, ap, ◌∙◌, rules}
 use Rattle.std.proofs.lemmas.Fn.{chained_keeps}
 use Rattle.rows.specs.Rows.{objects_in}
 use Rattle.rows.proofs.Holding.{rows_longer}

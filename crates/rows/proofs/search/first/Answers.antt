@@ -8,8 +8,8 @@ use Rattle.rows.proofs.search.first.Goals.{in-Some+else-test, in_default}
 pub loop-index-init : goal.loop-index-init
 loop-index-init g c = λ k h. absurd (omega arith)
 
-pub returns-then-test-clause-found : goal.returns-then-test-clause-found
-returns-then-test-clause-found g c =
+pub returns-then-test : goal.returns-then-test
+returns-then-test g c =
     let row = get_or_default c.args.rows.now c.loop-index.index None c.index-rows-index.result c.loop-index-test.true ∙ sym c.index-rows-index.is ∙ c.in-Some.is in
     found_by _ c.args.rows.now _ c.loop-index-test.true row (sym c.if-test.ensures) c.loop-index.invariant
 
@@ -23,5 +23,5 @@ loop-index-preserved g c =
       | in_default w ↦ ap (on q) w.in_default.is
     ])
 
-pub returns-clause-found : goal.returns-clause-found
-returns-clause-found g c = nowhere_by _ c.args.rows.now (λ k h. c.loop-index.invariant k (omega arith))
+pub returns : goal.returns
+returns g c = nowhere_by _ c.args.rows.now (λ k h. c.loop-index.invariant k (omega arith))
