@@ -92,6 +92,7 @@ steps tree w v r law s same e =
     let to : v.place ≡ (advance t p).0 = ap (λ z. z.0) e in
     record {
       view = same;
+      from = s;
       place = e;
       sound = rw (same, to) (record { chain = c.chain; room = omega (arith, c.room, s.room) });
       gives = rw (same, to, ap (λ z. z.1) e) c.gives;

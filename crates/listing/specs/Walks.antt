@@ -15,7 +15,7 @@
 --     Walk V             a walk through the tree that a view of type V shows: the view, and the place
 --     walk v p           the walk through v at the place p
 --     left_of tree w     all that is still to be given by w
---     Step tree w r v    from the walk w, one step comes to the walk v and gives r, which is the first of what was left, or none at the end
+--     Step tree w r v    from the sound walk w, one step comes to the walk v and gives r, which is the first of what was left, or none at the end
 use Rattle.std.specs.Prelude.{◌≡◌, ℕ, zero, suc, ◌-◌, ◌≤◌, Bool, cond, ◌&&◌, List, [], ◌∷◌, ◌++◌, length, Some, None, Option, nat_lt}
 use Rattle.std.specs.List.{flat_map}
 use Rattle.std.specs.Option.{option_map}
@@ -89,6 +89,7 @@ module _ {V : Type 0} (tree : V → Tree) where
 
   pub record Step (w : Walk V) (r : Option ℕ) (v : Walk V) : Type 0 where
     pub view : v.view ≡ w.view
+    pub from : Sound (tree w.view) w.place
     pub place : (v.place, r) ≡ advance (tree w.view) w.place
     pub sound : Sound (tree v.view) v.place
     pub gives : YieldsFirst left_of w r v
