@@ -19,13 +19,10 @@ impl Image {
     pub(crate) fn has_directory(&self, number: Number) -> bool
         ensures { result ≡ dir_at number (tree_of self.now).objects }
     {
-        if number == Number::ROOT {
-            return true;
-        }
-        match self.find(number) {
-            Some(place) => place.kind == Kind::Directory,
-            None => false,
-        }
+        number == Number::ROOT
+            || self
+                .find(number)
+                .is_some_and(|place| place.kind == Kind::Directory)
     }
 
     pub(crate) fn has_name(&self, parent: Number, name: &[u8]) -> bool

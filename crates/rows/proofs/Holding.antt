@@ -1,5 +1,5 @@
 -- How the objects of a table follow its rows. Assumes nothing.
-use Rattle.std.proofs.Common.{◌≡◌, nat_lt, ℕ, zero, suc, min, Bool, true, false, cond, not, ◌&&◌, List, [], ◌∷◌, ◌++◌, length, get_or, set, replicate, is_some as option_is_some, Some, None, Option, sym, refl, ap, ◌∙◌, ⊎_elim, arith}
+use Rattle.std.proofs.Common.{◌≡◌, nat_lt, ℕ, zero, suc, min, Bool, true, false, cond, not, ◌&&◌, List, [], ◌∷◌, ◌++◌, length, get_or, set, is_some as option_is_some, Some, None, Option, sym, refl, ap, ◌∙◌, ⊎_elim, arith}
 use Rattle.std.specs.Option.{option_map}
 use Rattle.std.specs.List.{reduce, filter_map, cons_option, fold}
 use Rattle.std.proofs.Math.Nat.{min_comm}
@@ -116,17 +116,10 @@ rows_full (Some e ∷ rows) h = let ih = rows_full rows h.1 in omega (arith, len
 
 -- ---- rows that hold nothing
 -- a free row behind the others
-pub rows_longer : (rows : List (Option Entry)) → objects_in (rows ++ None ∷ []) ≡ objects_in rows
-rows_longer [] = refl
-rows_longer (None ∷ rows) = rows_longer rows
-rows_longer (Some e ∷ rows) = ap (insert (object_of e)) (rows_longer rows)
-
-rows_free : (n : ℕ) → objects_in (replicate n None) ≡ []
-rows_free zero = refl
-rows_free (suc n) = rows_free n
-
-pub rows_freed : (rows : List (Option Entry)) (n : ℕ) → rows ≡ replicate n None → objects_in rows ≡ []
-rows_freed rows n h = ap objects_in h ∙ rows_free n
+pub rows_freed : (rows : List (Option Entry)) → objects_in (rows ++ None ∷ []) ≡ objects_in rows
+rows_freed [] = refl
+rows_freed (None ∷ rows) = rows_freed rows
+rows_freed (Some e ∷ rows) = ap (insert (object_of e)) (rows_freed rows)
 
 -- ---- the smallest number of a parent's objects
 fold_least : (m n : ℕ) (ns : List ℕ) → fold min (min m n) ns ≡ min (fold min n ns) m
